@@ -1,0 +1,84 @@
+-- Answers that tell the same are the same (`answer-unique`, `yes-no-unique`): so a promise of what an answer tells leaves one answer.
+-- Assumes nothing.
+use Prim.Native.Nat.{ℕ, zero, suc}
+use mathlib.Core.Path.{_≡_, refl, sym, ap, _∙_}
+use mathlib.Core.Bool.{Bool, true, false}
+use mathlib.Core.Option.{Option, none, some}
+use lib.Dec.{eqb}
+use Rattle.scan.specs.Scan.{pick}
+use Rattle.answers.specs.Told.{number, place, Told, told, tell, answerTold, yesNoTold}
+use Rattle.answers.specs.declared.Refusal.{Refusal}
+use Rattle.answers.specs.declared.Refusal.the-variants.{Unreadable, UnknownSize, NoDistance, SourceOut, NoTarget, TooMany, TargetOut, TargetIsSource, TargetAgain, BadDoors, NoRoom}
+use Rattle.answers.specs.declared.Answer.{Answer}
+use Rattle.answers.specs.declared.Answer.the-variants as answer
+use Rattle.answers.specs.declared.YesNo.{YesNo}
+use Rattle.answers.specs.declared.YesNo.the-variants as yesno
+
+-- the refusal of a number and a place
+refusal : ℕ → ℕ → Refusal
+refusal n p =
+    pick (eqb n 10) Unreadable
+    (pick (eqb n 1) UnknownSize
+    (pick (eqb n 9) NoDistance
+    (pick (eqb n 2) SourceOut
+    (pick (eqb n 3) NoTarget
+    (pick (eqb n 4) TooMany
+    (pick (eqb n 5) (TargetOut p)
+    (pick (eqb n 6) (TargetIsSource p)
+    (pick (eqb n 7) (TargetAgain p)
+    (pick (eqb n 11) BadDoors NoRoom)))))))))
+
+refusal-back : (why : Refusal) → refusal (number why) (place why) ≡ why
+unfolding refusal
+refusal-back Unreadable = refl
+refusal-back UnknownSize = refl
+refusal-back NoDistance = refl
+refusal-back SourceOut = refl
+refusal-back NoTarget = refl
+refusal-back TooMany = refl
+refusal-back (TargetOut p) = refl
+refusal-back (TargetIsSource p) = refl
+refusal-back (TargetAgain p) = refl
+refusal-back BadDoors = refl
+refusal-back NoRoom = refl
+
+-- no refusal has the number 0
+number-some : (why : Refusal) → eqb (number why) 0 ≡ false
+number-some Unreadable = refl
+number-some UnknownSize = refl
+number-some NoDistance = refl
+number-some SourceOut = refl
+number-some NoTarget = refl
+number-some TooMany = refl
+number-some (TargetOut p) = refl
+number-some (TargetIsSource p) = refl
+number-some (TargetAgain p) = refl
+number-some BadDoors = refl
+number-some NoRoom = refl
+
+answerOf : Told ℕ → Answer
+answerOf (told n p v) = pick (eqb n 0) (answer.Value v) (answer.Refused (refusal n p))
+
+answer-back : (a : Answer) → answerOf (answerTold a) ≡ a
+unfolding answerOf
+answer-back (answer.Value v) = refl
+answer-back (answer.Refused why) =
+    ap (λ (b : Bool). pick b (answer.Value 0) (answer.Refused (refusal (number why) (place why)))) (number-some why)
+    ∙ ap answer.Refused (refusal-back why)
+
+pub answer-unique : (a b : Answer) → answerTold a ≡ answerTold b → a ≡ b
+answer-unique a b e = sym (answer-back a) ∙ ap answerOf e ∙ answer-back b
+
+yesNoOf : Told Bool → YesNo
+yesNoOf (told n p v) = pick (eqb n 0) (pick v yesno.Yes yesno.No) (yesno.Refused (refusal n p))
+
+yes-no-back : (a : YesNo) → yesNoOf (yesNoTold a) ≡ a
+unfolding yesNoOf
+yes-no-back yesno.Yes = refl
+yes-no-back yesno.No = refl
+yes-no-back (yesno.Refused why) =
+    ap (λ (b : Bool). pick b yesno.No (yesno.Refused (refusal (number why) (place why)))) (number-some why)
+    ∙ ap yesno.Refused (refusal-back why)
+
+pub yes-no-unique : (a b : YesNo) → yesNoTold a ≡ yesNoTold b → a ≡ b
+yes-no-unique a b e = sym (yes-no-back a) ∙ ap yesNoOf e ∙ yes-no-back b

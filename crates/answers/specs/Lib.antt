@@ -1,0 +1,4 @@
+-- What comes back, and when: the numbers and places of the answers, and the order of the refusals.
+pub mod Told
+pub mod Order
+pub mod Laws

@@ -1,0 +1,105 @@
+-- The order of the refusals: 10, 1, 9, 2, 3, 4, 5, 6, 7, 11, 8. Of what stands against a request (`Faults`) the first in this order
+-- is told (`first`). Each routine states its faults by one of `sizeFaults`, `pairFaults` and `requestFaults`.
+use Prim.Native.Nat.{ℕ}
+use mathlib.Core.Bool.{Bool, true, false}
+use mathlib.Core.List.{List}
+use mathlib.Core.Option.{Option, none, some}
+use lib.Dec.{eqb, leb, ltb}
+use lib.ListN.{length, getD}
+use Rattle.scan.specs.Scan.{Spot, nowhere, at, pick, seek, among}
+use Rattle.answers.specs.declared.Refusal.{Refusal}
+use Rattle.answers.specs.declared.Refusal.the-variants.{Unreadable, UnknownSize, NoDistance, SourceOut, NoTarget, TooMany, TargetOut, TargetIsSource, TargetAgain, BadDoors, NoRoom}
+
+-- what stands against a request; of the faults of a target the first place that has one
+pub record Faults : Type 0 where
+  pub unreadable : Bool
+  pub unknown : Bool
+  pub undistanced : Bool
+  pub source : Bool
+  pub empty : Bool
+  pub many : Bool
+  pub out : Spot
+  pub same : Spot
+  pub again : Spot
+  pub doors : Bool
+  pub room : Bool
+
+abbrev pub refuse : Bool → Refusal → Option Refusal → Option Refusal
+refuse b why rest = pick b (some why) rest
+
+abbrev pub refuse-at : Spot → (ℕ → Refusal) → Option Refusal → Option Refusal
+refuse-at nowhere why rest = rest
+refuse-at (at p) why rest = some (why p)
+
+-- the first of the faults
+abbrev pub first : Faults → Option Refusal
+first f =
+    refuse (f .unreadable) Unreadable
+    (refuse (f .unknown) UnknownSize
+    (refuse (f .undistanced) NoDistance
+    (refuse (f .source) SourceOut
+    (refuse (f .empty) NoTarget
+    (refuse (f .many) TooMany
+    (refuse-at (f .out) TargetOut
+    (refuse-at (f .same) TargetIsSource
+    (refuse-at (f .again) TargetAgain
+    (refuse (f .doors) BadDoors
+    (refuse (f .room) NoRoom none))))))))))
+
+-- of a size alone
+abbrev pub sizeFaults : Bool → Faults
+sizeFaults unknown = record {
+  unreadable = false;
+  unknown = unknown;
+  undistanced = false;
+  source = false;
+  empty = false;
+  many = false;
+  out = nowhere;
+  same = nowhere;
+  again = nowhere;
+  doors = false;
+  room = false;
+}
+
+-- of a source and one target in a mesh of so many relays
+abbrev pub pairFaults : (unknown undistanced : Bool) (relays source target : ℕ) (room : Bool) → Faults
+pairFaults unknown undistanced relays s t room = record {
+  unreadable = false;
+  unknown = unknown;
+  undistanced = undistanced;
+  source = leb relays s;
+  empty = false;
+  many = false;
+  out = pick (leb relays t) (at 0) nowhere;
+  same = nowhere;
+  again = nowhere;
+  doors = false;
+  room = room;
+}
+
+-- the first target that is no relay, that is the source, that stands earlier in the list
+abbrev pub outAt : (relays : ℕ) (targets : List ℕ) → Spot
+outAt relays targets = seek (λ j. leb relays (getD targets j 0)) 0 (length targets)
+
+abbrev pub sameAt : (source : ℕ) (targets : List ℕ) → Spot
+sameAt s targets = seek (λ j. eqb (getD targets j 0) s) 0 (length targets)
+
+abbrev pub againAt : (targets : List ℕ) → Spot
+againAt targets = seek (λ j. among targets 0 j (getD targets j 0)) 0 (length targets)
+
+-- of a source and a list of targets in a mesh of so many relays, each with so many links
+abbrev pub requestFaults : (unknown : Bool) (relays links source : ℕ) (targets : List ℕ) (doors room : Bool) → Faults
+requestFaults unknown relays links s targets doors room = record {
+  unreadable = false;
+  unknown = unknown;
+  undistanced = false;
+  source = leb relays s;
+  empty = eqb (length targets) 0;
+  many = ltb links (length targets);
+  out = outAt relays targets;
+  same = sameAt s targets;
+  again = againAt targets;
+  doors = doors;
+  room = room;
+}

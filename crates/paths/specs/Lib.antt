@@ -1,0 +1,6 @@
+-- Paths and fans over any mesh: what they are, the first finding, and which paths survive. Plain routes over any next hop.
+pub mod Mesh
+pub mod Fan
+pub mod Finding
+pub mod Walk
+pub mod Walks

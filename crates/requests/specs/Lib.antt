@@ -1,0 +1,2 @@
+-- A request's faults.
+pub mod Request

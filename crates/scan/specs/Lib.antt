@@ -1,0 +1,3 @@
+-- Runs of numbers searched and counted: the definitions and their laws.
+pub mod Scan
+pub mod Laws

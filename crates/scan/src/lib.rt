@@ -1,0 +1,21 @@
+// Runs of numbers searched.
+ghost use mathlib.Core.Path.{_≡_};
+ghost use Prim.Native.Nat.{_+_, _≤_};
+ghost use lib.ListN.{length};
+ghost use Rattle.scan.specs.Scan as specs;
+
+// Whether x stands in the list at one of the n places from i on. `among(&[4, 7, 9], 1, 2, 9)` is true.
+pub fn among(list: &[u64], i: usize, n: usize, x: u64) -> bool
+    requires { ⌜ i + n ≤ length (now list) ⌝ }
+    ensures { λ r. ⌜ r ≡ specs.among (now (list .entry)) i n x ⌝ }
+{
+    let end = i + n;
+    let mut j = i;
+    while j < end {
+        if list[j] == x {
+            return true;
+        }
+        j += 1;
+    }
+    false
+}
