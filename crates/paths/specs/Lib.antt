@@ -2,5 +2,6 @@
 pub mod Mesh
 pub mod Fan
 pub mod Finding
+pub mod Lists
 pub mod Walk
 pub mod Walks
