@@ -126,6 +126,30 @@ seek-same p q i (suc n) h =
     ap (λ (b : Bool). pick b (at i) (seek p (suc i) n)) (h i (omega arith) (omega arith))
     ∙ ap (pick (q i) (at i)) (seek-same p q (suc i) n (λ j l g. h j (omega arith) (omega arith)))
 
+-- ---- a search by a loop
+
+-- the loop that seeks in the n numbers from i on has come to j: the test failed at each number before it
+pub record Passed (test : ℕ → Bool) (i n j : ℕ) : Type 0 where
+  pub from : i ≤ j
+  pub within : j ≤ i + n
+  pub fails : (k : ℕ) → i ≤ k → k < j → test k ≡ false
+
+pub passed-start : (test : ℕ → Bool) (i n : ℕ) → Passed test i n i
+passed-start test i n = record { from = omega arith; within = omega arith; fails = λ k l g. absurd (omega arith) }
+
+pub passed-more : {test : ℕ → Bool} {i n j : ℕ} → Passed test i n j → j < i + n → test j ≡ false → Passed test i n (j + 1)
+passed-more {test} {i} {n} {j} v l f = record { from = omega (arith, v .from); within = omega arith; fails = λ k a b. go k a b (ℕ-discrete k j) }
+  where
+    go : (k : ℕ) → i ≤ k → k < j + 1 → Dec (k ≡ j) → test k ≡ false
+    go k a b (yes e) = ap test e ∙ f
+    go k a b (no ne) = v .fails k a (omega arith)
+
+pub passed-at : {test : ℕ → Bool} {i n j : ℕ} → Passed test i n j → j < i + n → test j ≡ true → seek test i n ≡ at j
+passed-at {test} {i} {n} {j} v l t = first-seek test i n j (record { from = v .from; within = l; holds = t; before = v .fails })
+
+pub passed-all : {test : ℕ → Bool} {i n j : ℕ} → Passed test i n j → i + n ≤ j → seek test i n ≡ nowhere
+passed-all {test} {i} {n} {j} v l = none-seek test i n (λ k a b. v .fails k a (omega arith))
+
 -- ---- any
 
 pub any-true : (test : ℕ → Bool) (i n : ℕ) → any test i n ≡ true → (j : ℕ) × (i ≤ j) × (j < i + n) × (test j ≡ true)
