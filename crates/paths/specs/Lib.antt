@@ -2,5 +2,7 @@
 pub mod Mesh
 pub mod Fan
 pub mod Finding
+pub mod Clear
+pub mod Judged
 pub mod Walk
 pub mod Walks
