@@ -9,19 +9,19 @@ use native.Mathlib.Decide.{ℕ-discrete}
 use lib.Dec.{eqb, ltb}
 use lib.ListN.{length, getD}
 use borrow.Author.Tests.{ltb-false, le-ltb, eqb-true, eq-eqb, not-false}
-use Rattle.scan.specs.Scan.{Spot, nowhere, at, pick, seek}
+use Rattle.scan.specs.Scan.{Spot, nowhere, at, pick}
 use Rattle.paths.specs.Mesh.{Mesh, width}
 use Rattle.paths.specs.Fan.{relay, hops}
-use Rattle.paths.specs.Finding.{Finding, clean, found, report, report-at, unlinked, seen, unfilled, findingOf, findingFrom, finding}
+use Rattle.paths.specs.Finding.{Finding, clean, found, report, report-at, unlinkedAt, seenAt, unfilledAt, findingOf, findingFrom, finding}
 
 -- nothing is found on path i, which is to lead from s to t
 pub record Clear (m : Mesh) (s t : ℕ) (places counts : List ℕ) (i : ℕ) : Type 0 where
   pub short : hops counts i ≤ m .longest
   pub starts : relay (width m) places i 0 ≡ s
-  pub links : seek (unlinked m places i) 1 (hops counts i) ≡ nowhere
+  pub links : unlinkedAt m places counts i ≡ nowhere
   pub ends : relay (width m) places i (hops counts i) ≡ t
-  pub fresh : seek (seen (width m) places counts i) 0 (hops counts i + 1) ≡ nowhere
-  pub filled : seek (unfilled (width m) places i) (hops counts i + 1) (m .longest - hops counts i) ≡ nowhere
+  pub fresh : seenAt (width m) places counts i ≡ nowhere
+  pub filled : unfilledAt m places counts i ≡ nowhere
 
 -- ---- one test
 

@@ -13,7 +13,7 @@ use Rattle.scan.specs.Scan.{Spot, nowhere, at, pick, seek, any, among}
 use Rattle.scan.specs.Laws.{true-false, seek-none, none-seek, any-false, false-any, true-any, true-among, false-among}
 use Rattle.paths.specs.Mesh.{Mesh, width}
 use Rattle.paths.specs.Fan.{Path, Fan, filler, relay, hops}
-use Rattle.paths.specs.Finding.{Finding, clean, or, unlinked, on, excepted, seen, unfilled, finding}
+use Rattle.paths.specs.Finding.{Finding, clean, or, unlinked, on, excepted, seen, unfilled, unlinkedAt, seenAt, unfilledAt, finding}
 use Rattle.paths.specs.Clear.{Clear, clean-clear, clear-clean}
 
 -- ---- tests
@@ -77,6 +77,7 @@ module _ (m : Mesh) (s : ℕ) (targets places counts : List ℕ) where
 
   module _ (c : (j : ℕ) → j < length targets → Clear m s (getD targets j 0) places counts j) where
     not-seen : (i p : ℕ) → i < length targets → p ≤ hops counts i → seen (width m) places counts i p ≡ false
+    unfolding seenAt
     not-seen i p l h = seek-none _ 0 (hops counts i + 1) (c i l .fresh) p (omega arith) (omega arith)
 
     once : (i p q : ℕ) → i < length targets → q ≤ hops counts i → at-place i p ≡ at-place i q → p < q → ⊥
@@ -102,7 +103,7 @@ module _ (m : Mesh) (s : ℕ) (targets places counts : List ℕ) where
         go (yes z) = (same-place i p 0 l h (omega arith) (e ∙ ap (at-place j) z ∙ c j k .starts ∙ sym (c i l .starts)), z)
 
     path-of : (i : ℕ) → i < length targets → Path m s (getD targets i 0) places counts i
-    unfolding unlinked unfilled
+    unfolding unlinked unfilled unlinkedAt unfilledAt
     path-of i l = record {
       short = c i l .short;
       starts = c i l .starts;
@@ -149,7 +150,7 @@ module _ (m : Mesh) (s : ℕ) (targets places counts : List ℕ) where
         false-or (lt-leb (m .relays) (at-place i (suc p)) (rw next (r .0))) (ap not link)
 
     fan-clear : (i : ℕ) → i < length targets → Clear m s (getD targets i 0) places counts i
-    unfolding unfilled
+    unfolding unfilled unlinkedAt seenAt unfilledAt
     fan-clear i l =
         let p = f .path i l in
         record {

@@ -4,5 +4,7 @@ pub mod Fan
 pub mod Finding
 pub mod Clear
 pub mod Judged
+pub mod Whole
+pub mod Survive
 pub mod Walk
 pub mod Walks
