@@ -78,15 +78,19 @@ pairFaults unknown undistanced relays s t room = record {
   room = room;
 }
 
--- the first target that is no relay, that is the source, that stands earlier in the list
-abbrev pub outAt : (relays : ℕ) (targets : List ℕ) → Spot
-outAt relays targets = seek (λ j. leb relays (getD targets j 0)) 0 (length targets)
+-- the target at place j is no relay, is the source, stands earlier in the list
+abbrev pub isOut : (relays : ℕ) (targets : List ℕ) (j : ℕ) → Bool
+isOut relays targets j = leb relays (getD targets j 0)
 
-abbrev pub sameAt : (source : ℕ) (targets : List ℕ) → Spot
-sameAt s targets = seek (λ j. eqb (getD targets j 0) s) 0 (length targets)
+abbrev pub isSame : (source : ℕ) (targets : List ℕ) (j : ℕ) → Bool
+isSame s targets j = eqb (getD targets j 0) s
 
-abbrev pub againAt : (targets : List ℕ) → Spot
-againAt targets = seek (λ j. among targets 0 j (getD targets j 0)) 0 (length targets)
+abbrev pub isAgain : (targets : List ℕ) (j : ℕ) → Bool
+isAgain targets j = among targets 0 j (getD targets j 0)
+
+-- the first place at which a test of the targets holds
+abbrev pub firstAt : (targets : List ℕ) (test : ℕ → Bool) → Spot
+firstAt targets test = seek test 0 (length targets)
 
 -- of a source and a list of targets in a mesh of so many relays, each with so many links
 abbrev pub requestFaults : (unknown : Bool) (relays links source : ℕ) (targets : List ℕ) (doors room : Bool) → Faults
@@ -97,9 +101,9 @@ requestFaults unknown relays links s targets doors room = record {
   source = leb relays s;
   empty = eqb (length targets) 0;
   many = ltb links (length targets);
-  out = outAt relays targets;
-  same = sameAt s targets;
-  again = againAt targets;
+  out = firstAt targets (isOut relays targets);
+  same = firstAt targets (isSame s targets);
+  again = firstAt targets (isAgain targets);
   doors = doors;
   room = room;
 }

@@ -49,15 +49,25 @@ seen w places counts i p =
 unfoldable pub unfilled : (w : ℕ) (places : List ℕ) (i p : ℕ) → Bool
 unfilled w places i p = not (eqb (relay w places i p) filler)
 
+-- the first such place of path i, for each of the three
+unfoldable pub unlinkedAt : (m : Mesh) (places counts : List ℕ) (i : ℕ) → Spot
+unlinkedAt m places counts i = seek (unlinked m places i) 1 (hops counts i)
+
+unfoldable pub seenAt : (w : ℕ) (places counts : List ℕ) (i : ℕ) → Spot
+seenAt w places counts i = seek (seen w places counts i) 0 (hops counts i + 1)
+
+unfoldable pub unfilledAt : (m : Mesh) (places counts : List ℕ) (i : ℕ) → Spot
+unfilledAt m places counts i = seek (unfilled (width m) places i) (hops counts i + 1) (m .longest - hops counts i)
+
 -- the first finding of path i, which is to lead from s to t, or `rest`
 unfoldable pub findingOf : (m : Mesh) (s t : ℕ) (places counts : List ℕ) (i : ℕ) (rest : Finding) → Finding
 findingOf m s t places counts i rest =
     report (ltb (m .longest) (hops counts i)) (found 20 i 0)
     (report (not (eqb (relay (width m) places i 0) s)) (found 21 i 0)
-    (report-at (seek (unlinked m places i) 1 (hops counts i)) (found 22 i)
+    (report-at (unlinkedAt m places counts i) (found 22 i)
     (report (not (eqb (relay (width m) places i (hops counts i)) t)) (found 23 i (hops counts i))
-    (report-at (seek (seen (width m) places counts i) 0 (hops counts i + 1)) (found 24 i)
-    (report-at (seek (unfilled (width m) places i) (hops counts i + 1) (m .longest - hops counts i)) (found 25 i) rest)))))
+    (report-at (seenAt (width m) places counts i) (found 24 i)
+    (report-at (unfilledAt m places counts i) (found 25 i) rest)))))
 
 -- the first finding of the n paths from path i on
 unfoldable pub findingFrom : (m : Mesh) (s : ℕ) (targets places counts : List ℕ) (i n : ℕ) → Finding

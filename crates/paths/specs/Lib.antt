@@ -3,5 +3,9 @@ pub mod Mesh
 pub mod Fan
 pub mod Finding
 pub mod Lists
+pub mod Clear
+pub mod Judged
+pub mod Whole
+pub mod Survive
 pub mod Walk
 pub mod Walks

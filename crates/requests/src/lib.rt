@@ -2,7 +2,7 @@
 ghost use mathlib.Core.Path.{_≡_};
 ghost use mathlib.Core.Bool.{false};
 ghost use Rattle.answers.specs.Told.{against};
-ghost use Rattle.answers.specs.Order.{first, requestFaults, outAt, sameAt, againAt};
+ghost use Rattle.answers.specs.Order.{first, requestFaults, firstAt, isOut, isSame, isAgain};
 ghost use Rattle.requests.specs.Request.{spotOf, targetFaults};
 use answers::Checked;
 use answers::Refusal;
@@ -15,7 +15,7 @@ enum Spot {
 
 // The first target that is no relay.
 fn out_at(relays: u64, targets: &[u64]) -> Spot
-    ensures { λ r. ⌜ spotOf r ≡ outAt relays (now (targets .entry)) ⌝ }
+    ensures { λ r. ⌜ spotOf r ≡ firstAt (now (targets .entry)) (isOut relays (now (targets .entry))) ⌝ }
 {
     let mut j: usize = 0;
     while j < targets.len() {
@@ -29,7 +29,7 @@ fn out_at(relays: u64, targets: &[u64]) -> Spot
 
 // The first target that is the source.
 fn same_at(source: u64, targets: &[u64]) -> Spot
-    ensures { λ r. ⌜ spotOf r ≡ sameAt source (now (targets .entry)) ⌝ }
+    ensures { λ r. ⌜ spotOf r ≡ firstAt (now (targets .entry)) (isSame source (now (targets .entry))) ⌝ }
 {
     let mut j: usize = 0;
     while j < targets.len() {
@@ -43,7 +43,7 @@ fn same_at(source: u64, targets: &[u64]) -> Spot
 
 // The first target that stands earlier in the list.
 fn again_at(targets: &[u64]) -> Spot
-    ensures { λ r. ⌜ spotOf r ≡ againAt (now (targets .entry)) ⌝ }
+    ensures { λ r. ⌜ spotOf r ≡ firstAt (now (targets .entry)) (isAgain (now (targets .entry))) ⌝ }
 {
     let mut j: usize = 0;
     while j < targets.len() {

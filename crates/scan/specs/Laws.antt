@@ -6,7 +6,7 @@ use Prim.Native.Nat.{ℕ, zero, suc, _+_, _≤_, _<_}
 use mathlib.Core.Path.{_≡_, refl, sym, ap, _∙_, subst}
 use mathlib.Core.Bool.{Bool, true, false}
 use mathlib.Core.Logic.{_⊎_, inl, inr, ⊎-elim, _≢_}
-use mathlib.Core.List.{List}
+use mathlib.Core.List.{List, [], _∷_}
 use native.Mathlib.Omega.{arith}
 use native.Mathlib.Decide.{ℕ-discrete}
 use lib.Dec.{eqb}
@@ -126,6 +126,30 @@ seek-same p q i (suc n) h =
     ap (λ (b : Bool). pick b (at i) (seek p (suc i) n)) (h i (omega arith) (omega arith))
     ∙ ap (pick (q i) (at i)) (seek-same p q (suc i) n (λ j l g. h j (omega arith) (omega arith)))
 
+-- ---- a search by a loop
+
+-- the loop that seeks in the n numbers from i on has come to j: the test failed at each number before it
+pub record Passed (test : ℕ → Bool) (i n j : ℕ) : Type 0 where
+  pub from : i ≤ j
+  pub within : j ≤ i + n
+  pub fails : (k : ℕ) → i ≤ k → k < j → test k ≡ false
+
+pub passed-start : (test : ℕ → Bool) (i n : ℕ) → Passed test i n i
+passed-start test i n = record { from = omega arith; within = omega arith; fails = λ k l g. absurd (omega arith) }
+
+pub passed-more : {test : ℕ → Bool} {i n j : ℕ} → Passed test i n j → j < i + n → test j ≡ false → Passed test i n (j + 1)
+passed-more {test} {i} {n} {j} v l f = record { from = omega (arith, v .from); within = omega arith; fails = λ k a b. go k a b (ℕ-discrete k j) }
+  where
+    go : (k : ℕ) → i ≤ k → k < j + 1 → Dec (k ≡ j) → test k ≡ false
+    go k a b (yes e) = ap test e ∙ f
+    go k a b (no ne) = v .fails k a (omega arith)
+
+pub passed-at : {test : ℕ → Bool} {i n j : ℕ} → Passed test i n j → j < i + n → test j ≡ true → seek test i n ≡ at j
+passed-at {test} {i} {n} {j} v l t = first-seek test i n j (record { from = v .from; within = l; holds = t; before = v .fails })
+
+pub passed-all : {test : ℕ → Bool} {i n j : ℕ} → Passed test i n j → i + n ≤ j → seek test i n ≡ nowhere
+passed-all {test} {i} {n} {j} v l = none-seek test i n (λ k a b. v .fails k a (omega arith))
+
 -- ---- any
 
 pub any-true : (test : ℕ → Bool) (i n : ℕ) → any test i n ≡ true → (j : ℕ) × (i ≤ j) × (j < i + n) × (test j ≡ true)
@@ -166,6 +190,30 @@ pub true-among : (l : List ℕ) (i n x j : ℕ) → i ≤ j → j < i + n → ge
 unfolding among
 true-among l i n x j a b e = true-any (λ j. eqb (getD l j 0) x) i n j a b (eq-eqb (getD l j 0) x e)
 
+pub has-true : (l : List ℕ) (x : ℕ) → has l x ≡ true → (j : ℕ) × (j < length l) × (getD l j 0 ≡ x)
+unfolding has
+has-true l x e = let r = among-true l 0 (length l) x e in (r .0, omega (arith, r .2), r .3)
+
+pub true-has : (l : List ℕ) (x j : ℕ) → j < length l → getD l j 0 ≡ x → has l x ≡ true
+unfolding has
+true-has l x j h e = true-among l 0 (length l) x j (omega arith) (omega arith) e
+
+pub has-cons : (y : ℕ) (l : List ℕ) (x : ℕ) → has (y ∷ l) x ≡ true → (y ≡ x) ⊎ (has l x ≡ true)
+has-cons y l x e = let r = has-true (y ∷ l) x e in go (r .0) (r .1) (r .2)
+  where
+    go : (j : ℕ) → j < suc (length l) → getD (y ∷ l) j 0 ≡ x → (y ≡ x) ⊎ (has l x ≡ true)
+    go zero h e = inl e
+    go (suc j) h e = inr (true-has l x j (omega arith) e)
+
+pub has-first : (y : ℕ) (l : List ℕ) → has (y ∷ l) y ≡ true
+has-first y l = true-has (y ∷ l) y 0 (omega arith) refl
+
+pub has-rest : (y : ℕ) (l : List ℕ) (x : ℕ) → has l x ≡ true → has (y ∷ l) x ≡ true
+has-rest y l x e = let r = has-true l x e in true-has (y ∷ l) x (suc (r .0)) (omega (arith, r .1)) (r .2)
+
+pub has-none : (x : ℕ) → has [] x ≡ false
+has-none x = not-true (λ e. let r = has-true [] x e in omega (arith, r .1))
+
 -- ---- count
 
 pub count-on : (p : ℕ → Bool) (n : ℕ) → p n ≡ true → count p (suc n) ≡ suc (count p n)
@@ -179,6 +227,10 @@ count-off p n e = ap (λ (b : Bool). pick b (suc (count p n)) (count p n)) e
 pub count-none : (p : ℕ → Bool) → count p 0 ≡ 0
 unfolding count
 count-none p = refl
+
+pub count-never : (p : ℕ → Bool) (n : ℕ) → ((i : ℕ) → i < n → p i ≡ false) → count p n ≡ 0
+count-never p zero h = count-none p
+count-never p (suc n) h = count-off p n (h n (omega arith)) ∙ count-never p n (λ i l. h i (omega arith))
 
 -- a test that implies another holds at no more numbers
 pub count-implied : (p q : ℕ → Bool) (n : ℕ) → ((i : ℕ) → i < n → p i ≡ true → q i ≡ true) → count p n ≤ count q n

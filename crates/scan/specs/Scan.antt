@@ -2,7 +2,7 @@
 -- how many of the numbers below n it holds (`count`). What stands in a list, by a test: `among`, `has`.
 use Prim.Native.Nat.{ℕ, zero, suc, _+_}
 use mathlib.Core.Bool.{Bool, true, false}
-use mathlib.Core.List.{List}
+use mathlib.Core.List.{List, [], _∷_}
 use lib.Dec.{eqb}
 use lib.ListN.{length, getD}
 
@@ -40,3 +40,8 @@ among l i n x = any (λ j. eqb (getD l j 0) x) i n
 -- whether x stands in the list
 unfoldable pub has : List ℕ → ℕ → Bool
 has l x = among l 0 (length l) x
+
+-- how many different numbers stand in the list
+unfoldable pub different : List ℕ → ℕ
+different [] = zero
+different (x ∷ l) = pick (has l x) (different l) (suc (different l))
