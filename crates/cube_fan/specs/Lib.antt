@@ -1,0 +1,3 @@
+-- What the cube's planners promise, and the laws of it.
+pub mod Promise
+pub mod Laws
