@@ -4,3 +4,4 @@ pub mod Fan
 pub mod Finding
 pub mod Walk
 pub mod Walks
+pub mod Walked
