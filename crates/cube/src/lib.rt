@@ -77,7 +77,7 @@ impl Size {
     }
 }
 
-// 2^n.
+// 2^n, for callers that know the size: `power(4)` is 16.
 pub fn power(n: u64) -> u64
     requires { ⌜ n < 64 ⌝ }
     ensures { λ r. ⌜ r ≡ 2 ^ n ⌝ }
@@ -85,7 +85,7 @@ pub fn power(n: u64) -> u64
     1 << n
 }
 
-// What stands against a source and a target in a cube of this size: 1, 2, 5.
+// What stands against a source and a target in a cube of this size: 1, 2, 5. For `Size(4)` and 16, 16 it is the source.
 pub fn pair(size: Size, source: u64, target: u64) -> Checked
     ensures { λ r. ⌜ against r ≡ pairAgainst (size .0) source target false ⌝ }
 {
@@ -117,7 +117,7 @@ pub fn linked(size: Size, source: u64, target: u64) -> YesNo
     }
 }
 
-// Whether two numbers differ in exactly one bit.
+// Whether two numbers differ in exactly one bit, as linked relays do: 3 and 11 do.
 pub fn differ_in_one(u: u64, v: u64) -> bool
     ensures { λ r. ⌜ r ≡ specs.linked u v ⌝ }
 {

@@ -11,7 +11,7 @@ use answers::Checked;
 use answers::Refusal;
 
 // The relay after u on the way to t, and t itself where u is t.
-pub fn next(u: u64, t: u64) -> u64
+fn next(u: u64, t: u64) -> u64
     ensures { λ r. ⌜ r ≡ specs.next u t ⌝ }
 {
     if u == t {
@@ -20,15 +20,15 @@ pub fn next(u: u64, t: u64) -> u64
     bits::flip(u, bits::lowest(u ^ t))
 }
 
-// How many hops the route from s to t has: one for each bit that differs.
-pub fn hops(s: u64, t: u64) -> usize
+// How many hops the route from s to t has: one for each bit that differs, so 3 from 0 to 11.
+fn hops(s: u64, t: u64) -> usize
     ensures { λ r. ⌜ r ≡ specs.hops s t ⌝ }
 {
     u64::count_ones(s ^ t) as usize
 }
 
 // Writes the route from s to t at the front of `out`, and counts its hops.
-pub fn walk(s: u64, t: u64, out: &mut [u64]) -> usize
+fn walk(s: u64, t: u64, out: &mut [u64]) -> usize
     requires { ⌜ specs.hops s t < length (now out) ⌝ }
     ensures { λ r. ⌜ r ≡ specs.hops s t ⌝ }
     ensures { λ r. ⌜ now (out .exit) ≡ routed s t (now (out .entry)) ⌝ }
