@@ -1,7 +1,7 @@
 -- The worked cases marked with a star, as one theorem: `cases`. Each is computed from the definitions that the contracts cite.
 -- Assumes nothing.
 use mathlib.Core.Path.{_≡_, refl}
-use mathlib.Core.List.{List, [], _∷_}
+use mathlib.Core.List.{[], _∷_}
 use lib.Count.{trailingZeros}
 use Rattle.answers.specs.Told.{told}
 use Rattle.bits.specs.Bit.{flip}

@@ -4,5 +4,5 @@ pub mod Route
 pub mod Says
 pub mod Links
 pub mod Routes
-pub mod Against
+pub mod Sizes
 pub mod Unique

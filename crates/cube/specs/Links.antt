@@ -2,8 +2,8 @@
 --
 -- `linked-sym`: links go both ways. `linked-flip`, `flip-linked`: the relays linked to u are those with one of its bits changed, all
 -- different (`flip-apart`); so a relay of the cube of n dimensions has exactly n links (`links-count`).
-use Prim.Native.Nat.{ℕ, suc, _^_, _-_, _<_}
-use mathlib.Core.Path.{_≡_, refl, sym, ap, _∙_}
+use Prim.Native.Nat.{ℕ, _^_, _-_, _<_}
+use mathlib.Core.Path.{_≡_, sym, ap, _∙_}
 use mathlib.Core.Bool.{true, false}
 use mathlib.Core.Logic.{_≢_}
 use native.Mathlib.Omega.{arith}

@@ -1,10 +1,9 @@
 -- The plain route in a cube: at each relay the lowest bit in which it differs from the target is corrected.
-use Prim.Native.Nat.{ℕ, _+_}
-use mathlib.Core.List.{List, _++_}
+use Prim.Native.Nat.{ℕ}
+use mathlib.Core.List.{List}
 use lib.Bits.{bitXor}
 use lib.Count.{trailingZeros}
 use lib.Dec.{eqb}
-use lib.ListN.{drop}
 use Rattle.bits.specs.Bit.{flip}
 use Rattle.scan.specs.Scan.{pick}
 use Rattle.paths.specs.Walk as walk

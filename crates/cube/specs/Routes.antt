@@ -3,22 +3,18 @@
 -- `route-plain`: of relays s and t of a cube of n dimensions, the route from s to t has as many hops as bits differ, so n at most; it starts
 -- at s and ends at t, each of its steps is a link, and each of its relays is one of the cube.
 use Prim.Native.Nat.{ℕ, zero, suc, _+_, _^_, _≤_, _<_}
-use mathlib.Core.Path.{_≡_, refl, sym, ap, _∙_}
-use mathlib.Core.Bool.{Bool, true, false}
+use mathlib.Core.Path.{_≡_, sym, ap, _∙_}
+use mathlib.Core.Bool.{true}
 use mathlib.Core.Logic.{_≢_}
 use native.Mathlib.Nat.{le-refl, lt-of-lt-of-le}
-use native.Mathlib.Numerals.{add-one}
 use native.Mathlib.Omega.{arith}
-use native.Mathlib.Decide.{ℕ-discrete}
 use lib.Bits.{bitXor, xor-self, xor-lt}
 use lib.Count.{ones, ones-le, trailingZeros}
-use lib.Dec.{eqb}
 use lib.ListN.{length, getD}
 use lib.Pow.{pow-mono}
 use borrow.Author.Tests.{eq-eqb, ne-eqb}
 use Rattle.bits.specs.Bit.{bit, flip, Lowest}
 use Rattle.bits.specs.Laws.{trailing-lowest, lowest-one, flip-lt, flip-xor, ones-clear, ones-none, ones-zero, xor-zero-eq}
-use Rattle.scan.specs.Scan.{pick}
 use Rattle.paths.specs.Walk.{node, Arrives}
 use Rattle.paths.specs.Walk as walk
 use Rattle.paths.specs.Walks.{node-start, hops-is, route-length, route-at}

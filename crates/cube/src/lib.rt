@@ -4,7 +4,7 @@ mod plain;
 pub use plain::next_hop;
 pub use plain::route;
 ghost use mathlib.Core.Path.{_≡_};
-ghost use mathlib.Core.Bool.{true, false};
+ghost use mathlib.Core.Bool.{false};
 ghost use Prim.Native.Nat.{_+_, _^_, _<_};
 ghost use Rattle.answers.specs.Told.{answerTold, yesNoTold, against};
 ghost use Rattle.cube.specs.Cube as specs;

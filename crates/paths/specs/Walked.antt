@@ -1,7 +1,7 @@
 -- A walk under way, which writes its relays into a lent slice: what a loop that goes from s to t by `next` keeps. Assumes nothing.
 --
 -- `walk-starts`, `walk-goes-on` and `walk-ends` are the loop's beginning, turn and end.
-use Prim.Native.Nat.{ℕ, suc, _+_, _≤_, _<_}
+use Prim.Native.Nat.{ℕ, _+_, _≤_, _<_}
 use mathlib.Core.Path.{_≡_, refl, sym, ap, ap₂, _∙_}
 use mathlib.Core.List.{List, _++_}
 use native.Mathlib.Omega.{arith}

@@ -1,16 +1,16 @@
 -- Counting by a list of the places. Assumes nothing.
 --
 -- `count-places`: a test that holds below n exactly at k different places f 0, .. f (k - 1) holds at k numbers below n.
-use Prim.Native.Nat.{ℕ, zero, suc, _+_, _≤_, _<_}
+use Prim.Native.Nat.{ℕ, zero, suc, _<_}
 use mathlib.Core.Path.{_≡_, refl, sym, ap, _∙_}
 use mathlib.Core.Bool.{Bool, true, false}
-use mathlib.Core.Logic.{_⊎_, inl, inr, ⊎-elim, _≢_}
+use mathlib.Core.Logic.{_⊎_, inl, inr, _≢_}
 use native.Mathlib.Omega.{arith}
 use native.Mathlib.Decide.{ℕ-discrete}
 use lib.Dec.{eqb}
 use borrow.Author.Tests.{eqb-true, eq-eqb, ne-eqb}
 use Rattle.scan.specs.Scan.{any, count}
-use Rattle.scan.specs.Laws.{true-or, true-false, not-true, any-true, true-any, false-any, count-on, count-off, count-none}
+use Rattle.scan.specs.Laws.{true-or, true-false, any-true, true-any, false-any, count-on, count-off, count-none}
 
 -- tests that agree count the same
 pub count-same : (p q : ℕ → Bool) (n : ℕ) → ((i : ℕ) → i < n → p i ≡ q i) → count p n ≡ count q n

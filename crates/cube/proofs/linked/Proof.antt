@@ -3,7 +3,7 @@ use mathlib.Core.Path.{sym, _∙_}
 use mathlib.Core.Bool.{false}
 use borrow.Author.Needs.{needs}
 use Rattle.cube.specs.Cube.{linked}
-use Rattle.cube.specs.Against.{told-refused, told-fine}
+use Rattle.answers.specs.Pairs.{told-refused, told-fine}
 use Rattle.cube.proofs.linked.Statement.{statement}
 use Rattle.cube.proofs.linked.Tie as tie
 

@@ -1,7 +1,7 @@
 -- `cube::plain::next_hop` meets its contract: what stands against the pair, else the next hop. Assumes nothing.
 use borrow.Author.Needs.{needs}
 use Rattle.cube.specs.Route.{next}
-use Rattle.cube.specs.Against.{told-refused, told-fine}
+use Rattle.answers.specs.Pairs.{told-refused, told-fine}
 use Rattle.cube.proofs.plain.next_hop.Statement.{statement}
 use Rattle.cube.proofs.plain.next_hop.Tie as tie
 

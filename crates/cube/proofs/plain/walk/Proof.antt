@@ -1,11 +1,10 @@
 -- `cube::plain::walk` meets its contract. The invariant: after k hops the walk is at `at`, and the relays before it are written.
 -- The measure is the hops that are left. Assumes nothing.
-use Prim.Native.Nat.{ℕ, _+_, _-_, _<_}
-use mathlib.Core.Path.{_≡_, refl, sym, ap, _∙_}
+use Prim.Native.Nat.{_-_, _<_}
 use native.Mathlib.Omega.{arith}
 use borrow.Author.Needs.{needs}
 use native.Mathlib.Nat.{le-refl}
-use lib.ListN.{length, length-set}
+use lib.ListN.{length-set}
 use Rattle.paths.specs.Walk.{Arrives}
 use Rattle.paths.specs.Walked.{Walked, walk-starts, walk-short, walk-goes-on, walk-ends}
 use Rattle.cube.specs.Route.{next, hops, route}
