@@ -10,7 +10,7 @@ use native.Mathlib.Decide.{ℕ-discrete}
 use lib.Dec.{eqb}
 use borrow.Author.Tests.{eqb-true, eq-eqb, ne-eqb}
 use Rattle.scan.specs.Scan.{any, count}
-use Rattle.scan.specs.Laws.{true-or, true-false, any-true, true-any, false-any, count-on, count-off, count-none}
+use Rattle.scan.specs.Laws.{true-or, true-false, any-true, true-any, false-any, count-on, count-off, count-none, count-never}
 
 -- tests that agree count the same
 pub count-same : (p q : ℕ → Bool) (n : ℕ) → ((i : ℕ) → i < n → p i ≡ q i) → count p n ≡ count q n
@@ -20,11 +20,6 @@ count-same p q (suc n) h = go (true-or (q n)) (h n (omega arith)) (count-same p 
     go : (q n ≡ true) ⊎ (q n ≡ false) → p n ≡ q n → count p n ≡ count q n → count p (suc n) ≡ count q (suc n)
     go (inl t) e r = count-on p n (e ∙ t) ∙ ap suc r ∙ sym (count-on q n t)
     go (inr f) e r = count-off p n (e ∙ f) ∙ r ∙ sym (count-off q n f)
-
--- a test that fails everywhere
-pub count-never : (p : ℕ → Bool) (n : ℕ) → ((i : ℕ) → i < n → p i ≡ false) → count p n ≡ 0
-count-never p zero h = count-none p
-count-never p (suc n) h = count-off p n (h n (omega arith)) ∙ count-never p n (λ i l. h i (omega arith))
 
 -- a test that agrees with another but at x, where only the other holds, counts one less
 pub count-one-more : (p q : ℕ → Bool) (n x : ℕ) → x < n → p x ≡ false → q x ≡ true → ((i : ℕ) → i < n → i ≢ x → p i ≡ q i) → count q n ≡ suc (count p n)
