@@ -147,3 +147,9 @@ module _ (m b : ℕ) (hb : b < 2 ^ m) where
   shuffled-none =
       same-bits (2 ^ m) (shuffled (2 ^ m) b 0) 0 (shuffled-lt 0) (pow-pos (2 ^ m))
       (λ i l. shuffled-bit 0 i l ∙ bit-none (bitXor i b) ∙ sym (bit-none i))
+
+  -- twice is as before
+  pub shuffled-twice : (x : ℕ) → x < 2 ^ (2 ^ m) → shuffled (2 ^ m) b (shuffled (2 ^ m) b x) ≡ x
+  shuffled-twice x h =
+      same-bits (2 ^ m) (shuffled (2 ^ m) b (shuffled (2 ^ m) b x)) x (shuffled-lt (shuffled (2 ^ m) b x)) h
+      (λ i l. shuffled-bit (shuffled (2 ^ m) b x) i l ∙ shuffled-moves x i l)

@@ -7,3 +7,6 @@ pub mod Parts
 pub mod Links
 pub mod Counts
 pub mod Near
+pub mod Moves
+pub mod Ends
+pub mod Steps
