@@ -10,3 +10,6 @@ pub mod Near
 pub mod Moves
 pub mod Ends
 pub mod Steps
+pub mod Told
+pub mod Refusals
+pub mod Post

@@ -51,6 +51,13 @@ known-bounds m e = go (true-or (leb 1 m))
 pub bounds-known : (m : ℕ) → 1 ≤ m → m ≤ 5 → known m ≡ true
 bounds-known m h g = ap (λ (x : Bool). pick x (leb m 5) false) (le-leb 1 m h) ∙ le-leb m 5 g
 
+pub known-high : (m : ℕ) → 1 ≤ m → known m ≡ leb m 5
+known-high m h = ap (λ (x : Bool). pick x (leb m 5) false) (le-leb 1 m h)
+
+-- what the flag that `known` returns says
+pub few : (m : ℕ) {r : Bool} → r ≡ known m → r ≡ true → m ≤ 5
+few m e t = known-bounds m (sym e ∙ t) .1
+
 pub low-unknown : (m : ℕ) → m < 1 → known m ≡ false
 low-unknown m h = ap (λ (x : Bool). pick x (leb m 5) false) (lt-leb 1 m h)
 
@@ -69,6 +76,10 @@ module _ (m : ℕ) (h : m ≤ 5) where
 
   pub longest-few : longest m ≤ 206
   longest-few = omega (arith, slots-few, mul-le-mul h slots-few)
+
+  -- a relay's number fits a word
+  pub relay-few : (b p : ℕ) → b < blocks m → p < slots m → relay m b p < 2 ^ 64
+  relay-few b p hb hp = lt-of-lt-of-le (relay-below m b p hb hp) (le-trans relays-few (pow-mono {i = 37} {j = 64} (omega arith)))
 
 -- ---- a number for each block and slot
 
