@@ -5,11 +5,11 @@
 use Prim.Native.Nat.{ℕ, zero, suc, _+_, _-_, _*_, _/_, _%_, _^_, _≤_, _<_}
 use mathlib.Core.Path.{_≡_, refl, sym, ap, ap₂, _∙_, subst}
 use mathlib.Core.Logic.{_⊎_, inl, inr, ⊎-elim, _≢_}
-use native.Mathlib.Nat.{pow-suc, zero-mul, one-mul}
+use native.Mathlib.Nat.{pow-suc, zero-mul, one-mul, lt-of-lt-of-le}
 use native.Mathlib.Omega.{arith}
 use native.Mathlib.Decide.{ℕ-discrete}
 use lib.Arith.{lt-one, digits-div, digits-mod}
-use lib.Pow.{pow-pos, pow-lt}
+use lib.Pow.{pow-pos, pow-lt, pow-mono}
 use lib.Bits.{bitXor, differ, xor-comm, xor-self, xor-zero-l, xor-lt}
 use lib.Count.{ones}
 use Rattle.bits.specs.Bit.{bit, flip, Lowest}
@@ -102,6 +102,13 @@ gather-bit f (suc n) i h l = ap (bit i) (gather-more f n) ∙ go (ℕ-discrete i
     go : Dec (i ≡ n) → (i < n → bit i (gather f n) ≡ f i) → bit i (f n * 2 ^ n + gather f n) ≡ f i
     go (yes e) rest = rw e (bit-top n (f n) (gather f n) (h n) (gather-lt f n h))
     go (no ne) rest = bit-under n i (f n) (gather f n) (omega arith) ∙ rest (omega arith)
+
+-- a bit at its place, and one more, fit a word
+pub placed-fits : (j x i : ℕ) → i < 64 → bit j x * 2 ^ i < 2 ^ 64
+placed-fits j x i h = ⊎-elim (λ e. rw e (pow-pos 64)) (λ e. rw e (pow-lt h)) (digit (bit j x) i (bit-lt j x))
+
+pub gather-fits : (f : ℕ → ℕ) (i : ℕ) → ((j : ℕ) → f j < 2) → i < 64 → gather f i + f i * 2 ^ i < 2 ^ 64
+gather-fits f i h l = rw (← gather-next f i) (lt-of-lt-of-le (gather-lt f (i + 1) h) (pow-mono {j = 64} (omega arith)))
 
 -- ---- bits moved from p to p xor b
 

@@ -13,7 +13,10 @@ ghost use Rattle.two.specs.Post.{Placed, Apart, Slots, Between, Pair, Ro
 ghost use Rattle.two.specs.Refusals.{Fine};
 ghost use Rattle.bits.specs.Bit.{bit};
 ghost use mathlib.Core.List.{_++_};
-use answers::{Answer, Checked, Refusal, YesNo};
+use answers::Answer;
+use answers::Checked;
+use answers::Refusal;
+use answers::YesNo;
 
 // The order of a mesh: 1 to 5, and the facts that go with it.
 pub struct Order(pub u64);
@@ -35,6 +38,7 @@ fn pow(k: u64) -> u64
 
 impl Order {
     pub const LEAST: u64 = 1;
+
     pub const MOST: u64 = 5;
 
     // Whether it is an order that is served: 1 to 5.

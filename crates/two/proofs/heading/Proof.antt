@@ -12,7 +12,7 @@ returns c = let a = c .before .before .before .args in sym (heading-same (a .ord
 
 crossing-requires : tie.Need-crossing-requires
 crossing-requires c κs =
-    let s = c .before .before .before .before .before  in
+    let s = c .before .before .before .before .before in
     record {
       order = s .pre .order;
       below = xor-lt (2 ^ s .args .order .0) (s .args .b .0) (s .args .c .0) (s .pre .from) (s .pre .to);

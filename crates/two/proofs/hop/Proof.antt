@@ -21,7 +21,7 @@ slot-of-requires-2 c κs = known-bounds (c .before .before .before .args .order 
 
 step-requires : tie.Need-step-requires
 step-requires c κs =
-    let s = c .before .before .before .before  in
+    let s = c .before .before .before .before in
     let m = s .args .order .0 in
     let few = known-bounds m (s .pre .order) .1 in
     record {

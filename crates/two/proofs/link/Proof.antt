@@ -21,7 +21,7 @@ slot-of-requires-2 c κs = c .before .before .before .pre
 
 joined-requires : tie.Need-joined-requires
 joined-requires c κs =
-    let s = c .before .before .before .before  in
+    let s = c .before .before .before .before in
     let m = s .args .order .0 in
     omega (arith, c .before .before .slot-of .ensures, slot-below m (s .args .u), slots-few m (s .pre))
 

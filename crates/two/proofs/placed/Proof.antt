@@ -1,25 +1,30 @@
-use borrow.Author.Needs.{needs}
+-- `two::placed` meets its contract. Assumes nothing.
+use Prim.Native.Nat.{ℕ, _*_, _/_, _^_, _<_}
+use mathlib.Core.Path.{_≡_, ap₂, sym, subst}
+use native.Mathlib.Omega.{arith}
+use lib.Bits.{bitAnd, and-mask}
+use Rattle.bits.specs.Bit.{bit}
+use Rattle.two.specs.Digits.{placed-fits}
 use Rattle.two.proofs.placed.Statement.{statement}
 use Rattle.two.proofs.placed.Tie as tie
-use Rattle.two.proofs.placed.Reads as reads
-use Rattle.two.proofs.placed.Lts as lts
-use Rattle.two.proofs.pow.Reads as pow-reads
 
--- src/lib.rt:379:7
 shr-result : tie.Need-shr-result
-shr-result c = search needs
+shr-result c = omega (arith, c .pre .0)
 
--- src/lib.rt:379:22
 pow-requires : tie.Need-pow-requires
-pow-requires c κs = search needs
+pow-requires c κs = c .pre .1
 
--- src/lib.rt:379:5
+product : (c : tie.After-pow) → bitAnd (c .before .args .x / 2 ^ c .before .args .j) 1 * c .pow .result ≡ bit (c .before .args .j) (c .before .args .x) * 2 ^ c .before .args .i
+unfolding bit
+product c = let a = c .before .args in ap₂ (λ (x y : ℕ). x * y) (and-mask (a .x / 2 ^ a .j) 1) (c .pow .ensures)
+
 mul-result : tie.Need-mul-result
-mul-result c = search needs
+mul-result c =
+    let a = c .before .args in
+    record { fits = subst (λ (n : ℕ). n < 2 ^ 64) (sym (product c)) (placed-fits (a .j) (a .x) (a .i) (c .before .pre .1)) }
 
--- src/lib.rt:375:1
 returns : tie.Need-returns
-returns c = ?
+returns c = product c
 
 pub placed-spec : {M : Type 1} → statement M
 placed-spec = tie.close (tie.spec shr-result pow-requires mul-result returns)

@@ -1,31 +1,31 @@
+-- `two::route_parts` meets its contract. Assumes nothing.
+use Prim.Native.Nat.{ℕ}
+use mathlib.Core.Path.{_≡_, _∙_, ap₂}
 use borrow.Author.Needs.{needs}
+use lib.ListN.{length}
+use Rattle.two.specs.Told.{routeTold, routeLeaves}
 use Rattle.two.proofs.route_parts.Statement.{statement}
 use Rattle.two.proofs.route_parts.Tie as tie
-use Rattle.two.proofs.route_parts.Reads as reads
-use Rattle.two.proofs.route_parts.Lts as lts
-use Rattle.two.proofs.named.Reads as named-reads
-use Rattle.two.proofs.route.Reads as route-reads
 
--- src/lib.rt:377:18
 named-requires : tie.Need-named-requires
 named-requires c κs = search needs
 
--- src/lib.rt:377:38
 named-requires-2 : tie.Need-named-requires-2
 named-requires-2 c κs = search needs
 
--- src/lib.rt:377:5
 route-requires : tie.Need-route-requires
 route-requires c κs = search needs
 
--- src/lib.rt:373:1
 same-length : tie.Need-same-length
-same-length c = search needs
+same-length c = c .before .before .route .kept .1 .1 .1 .0
 
--- src/lib.rt:373:1
 returns : tie.Need-returns
-returns c = ?
+returns c =
+    let a = c .before .before .before .before .before .before .before .args in
+    let r = c .before .before .route .ensures in (
+      r .0 ∙ ap₂ (λ (x y : ℕ). routeTold (a .order .0) x y (length (a .out .now))) (c .before .before .before .before .before .named .ensures) (c .before .before .before .before .named2 .ensures),
+      r .1 ∙ ap₂ (λ (x y : ℕ). routeLeaves (a .order .0) x y (a .out .now)) (c .before .before .before .before .before .named .ensures) (c .before .before .before .before .named2 .ensures),
+    )
 
 pub route-parts-spec : {M : Type 1} → statement M
-route-parts-spec =
-    tie.close (tie.spec named-requires named-requires-2 route-requires same-length returns)
+route-parts-spec = tie.close (tie.spec named-requires named-requires-2 route-requires same-length returns)

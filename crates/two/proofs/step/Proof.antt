@@ -19,7 +19,7 @@ crossed-requires c κs =
 
 toward-requires : tie.Need-toward-requires
 toward-requires c κs =
-    let s = c .before .before  in
+    let s = c .before .before in
     let a = s .args in
     record {
       order = s .pre .from .order;
@@ -41,7 +41,7 @@ slot-is c = let a = c .before .before .before .args in c .toward .ensures ∙ ap
 
 relay-of-requires : tie.Need-relay-of-requires
 relay-of-requires c κs =
-    let s = c .before .before .before  in
+    let s = c .before .before .before in
     let a = s .args in
     let w = step-within (a .order .0) (a .b .0) (a .p .0) (a .c .0) (a .q .0) (s .pre .from .block) (s .pre .from .slot) (s .pre .to .block) (s .pre .to .slot) in
     record {

@@ -17,7 +17,7 @@ flip-requires c κs = c .lowest .ensures .within
 
 returns-2 : tie.Need-returns-2
 returns-2 c =
-    let s = c .before .before .before .before .before .before .before  in
+    let s = c .before .before .before .before .before .before .before in
     c .flip .ensures
     ∙ sym (toward-lowest (s .args .order .0) (s .args .p .0) (s .args .q .0) (c .before .lowest .result) (s .pre .from) (s .pre .to) (c .before .before .before .before .if1 .left) (c .before .lowest .ensures))
 
