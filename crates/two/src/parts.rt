@@ -4,10 +4,11 @@ ghost use mathlib.Core.Bool.{false};
 ghost use Prim.Native.Nat.{_≤_};
 ghost use Rattle.answers.specs.Told.{answerTold, against};
 ghost use Rattle.two.specs.Two as specs;
-ghost use Rattle.two.specs.Told.{faults};
+ghost use Rattle.two.specs.Told.{faults, placeTold, splitTold, numberTold};
 ghost use Rattle.two.specs.Post.{Placed};
 use crate::sizes;
 use crate::sizes::Order;
+use answers::Answer;
 use answers::Checked;
 use answers::Refusal;
 
@@ -16,6 +17,12 @@ pub struct Block(pub u64);
 
 // A slot's number: m bits in a mesh of order m.
 pub struct Slot(pub u64);
+
+// Where a relay stands, or why it is none.
+pub enum Place {
+    At(Block, Slot),
+    Refused(Refusal),
+}
 
 // The block of a relay's number: `block_of(Order(2), 27)` is block 6.
 pub fn block_of(order: Order, relay: u64) -> Block
@@ -72,4 +79,25 @@ pub fn checked(order: Order, source: u64, target: u64) -> Checked
         return Checked::Refused(Refusal::TargetOut(0));
     }
     Checked::Fine
+}
+
+// The block and the slot of a relay's number: of 27 in order 2 they are 6 and 3. Refuses with 1, 2.
+pub fn split(order: Order, relay: u64) -> Place
+    ensures { λ r. ⌜ placeTold r ≡ splitTold (order .0) relay ⌝ }
+{
+    match checked(order, relay, 0) {
+        Checked::Fine => Place::At(block_of(order, relay), slot_of(order, relay)),
+        Checked::Refused(why) => Place::Refused(why),
+    }
+}
+
+// The number of a relay from its block and its slot, each judged: block 6, slot 3 of order 2 is 27. Refuses with 1, 2.
+pub fn number(order: Order, block: Block, slot: Slot) -> Answer
+    ensures { λ r. ⌜ answerTold r ≡ numberTold (order .0) (specs.named (order .0) (block .0) (slot .0)) ⌝ }
+{
+    let relay = named(order, block, slot);
+    match checked(order, relay, 0) {
+        Checked::Fine => Answer::Value(relay),
+        Checked::Refused(why) => Answer::Refused(why),
+    }
 }
