@@ -115,7 +115,7 @@ gather-fits f i h l = rw (← gather-next f i) (lt-of-lt-of-le (gather-lt f (i +
 module _ (m b : ℕ) (hb : b < 2 ^ m) where
   pub shuffled-lt : (x : ℕ) → shuffled (2 ^ m) b x < 2 ^ (2 ^ m)
   unfolding shuffled
-  shuffled-lt x = gather-lt (λ i. bit (bitXor i b) x) (2 ^ m) (λ i. bit-lt (bitXor i b) x)
+  shuffled-lt x = gather-lt _ (2 ^ m) (λ i. bit-lt _ x)
 
   pub shuffled-bit : (x i : ℕ) → i < 2 ^ m → bit i (shuffled (2 ^ m) b x) ≡ bit (bitXor i b) x
   unfolding shuffled

@@ -28,6 +28,11 @@ use Rattle.two.specs.Ends.{walk-ends, node-keeps}
 
 -- ---- what is used of the choice of the block bit
 
+-- the one that a word of 64 bits has lowest
+pub crossing-lowest : (m x i : ℕ) → x ≢ 0 → x < blocks m → Lowest 64 x i → i ≡ crossing m x
+unfolding crossing
+crossing-lowest m x i ne h l = lowest-alike 64 (2 ^ m) x i (trailingZeros (2 ^ m) x) l (trailing-lowest (2 ^ m) x ne h)
+
 -- it is a bit in which the blocks differ
 pub crossing-bit : (m x : ℕ) → x ≢ 0 → x < blocks m → (crossing m x < slots m) × (bit (crossing m x) x ≡ 1)
 unfolding crossing
@@ -72,10 +77,6 @@ pub toward-lowest : (m p q i : ℕ) → p < slots m → q < slots m → p ≢ q 
 toward-lowest m p q i hp hq ne l =
     toward-moves m p q ne
     ∙ ap (flip p) (lowest-alike m 64 (bitXor p q) (trailingZeros m (bitXor p q)) i (trailing-lowest m (bitXor p q) (λ z. ne (xor-zero-eq p q z)) (xor-lt m p q hp hq)) l)
-
-pub crossing-lowest : (m x i : ℕ) → x ≢ 0 → x < blocks m → Lowest 64 x i → i ≡ crossing m x
-unfolding crossing
-crossing-lowest m x i ne h l = lowest-alike 64 (2 ^ m) x i (trailingZeros (2 ^ m) x) l (trailing-lowest (2 ^ m) x ne h)
 
 -- ---- one hop, by blocks and slots
 
