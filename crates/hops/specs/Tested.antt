@@ -20,7 +20,7 @@ use Rattle.two.specs.Near.{near, near-linked, near-below, linked-near}
 use Rattle.two.specs.Links.{both-true, linked-sym}
 use Rattle.hops.specs.Rule.{Rule, rule-shortest}
 use Rattle.hops.specs.Ways.{Shortest}
-use Rattle.hops.specs.Tables.{table1, table2, table3, words1, words2, words3, tableOf, wordsOf, entry, look}
+use Rattle.hops.specs.Tables.{table1, table2, table3, words3, tableOf, entry, look}
 
 -- ---- a test over a list
 
@@ -121,7 +121,7 @@ top (suc (suc zero)) = 8
 top (suc (suc (suc m))) = 16
 
 passes : (m : ℕ) → 1 ≤ m → m ≤ 3 → (length (tableOf m) ≡ relays m) × (every (test m (top m) (look m)) 0 (tableOf m) ≡ true)
-unfolding table1 table2 table3 words1 words2 words3 look near flip any seek
+unfolding table1 table2 table3 words3 look near flip any seek
 passes zero h g = absurd (omega arith)
 passes (suc zero) h g = (refl, refl)
 passes (suc (suc zero)) h g = (refl, refl)

@@ -2109,7 +2109,7 @@ pub const HOPS3: [u8; 2048] = [
     15,
     15,
     14,
-    16,
+    16, // relay 2040, the first of the farthest
     15,
     15,
     16,
