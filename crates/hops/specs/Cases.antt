@@ -1,9 +1,8 @@
 -- The document's case F: the distances of relays 0 to 7 of order 1 from relay 0, from the definition of distance. Assumes nothing.
 use Prim.Native.Nat.{ℕ, zero, suc}
-use mathlib.Core.Path.{_≡_, refl, ap, ap₂, _∙_}
+use mathlib.Core.Path.{_≡_, refl}
 use mathlib.Core.List.{List, [], _∷_}
 use lib.Count.{ones, onesIn}
-use Rattle.bits.specs.Bit.{flip}
 use Rattle.scan.specs.Scan.{seek, any}
 use Rattle.two.specs.Two.{joined, linked, two}
 use Rattle.hops.specs.Ways.{reaches, distance}

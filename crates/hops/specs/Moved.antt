@@ -1,17 +1,16 @@
 -- A pair is brought to relay 0 and looked up: the entry of the target as the source sees it is the distance (`distance-entry`), and the distance
 -- is that of a shortest path (`distance-is`). The refusals, case by case. Assumes nothing.
 use Prim.Native.Nat.{ℕ, zero, suc, _+_, _^_, _≤_, _<_}
-use mathlib.Core.Path.{_≡_, refl, sym, ap, ap₂, _∙_, subst}
-use mathlib.Core.Bool.{Bool, true, false, not}
-use mathlib.Core.Option.{Option, none, some}
+use mathlib.Core.Path.{_≡_, sym, ap, ap₂, _∙_, subst}
+use mathlib.Core.Bool.{Bool, false, not}
+use mathlib.Core.Option.{some}
 use native.Mathlib.Omega.{arith}
-use lib.Dec.{leb, ltb}
+use lib.Dec.{ltb}
 use lib.Pow.{pow-pos}
 use borrow.Author.Tests.{lt-ltb, le-ltb}
 use Rattle.answers.specs.Order.{first, pairFaults}
-use Rattle.answers.specs.declared.Refusal.{Refusal}
 use Rattle.answers.specs.declared.Refusal.the-variants.{UnknownSize, NoDistance}
-use Rattle.two.specs.Two.{known, relays, linked, two}
+use Rattle.two.specs.Two.{known, relays, two}
 use Rattle.two.specs.Seen.{seen}
 use Rattle.two.specs.Moves.{unseen, seen-below, seen-home, seen-linked, unseen-below, unseen-seen, unseen-linked}
 use Rattle.two.specs.Parts.{bounds-known, high-unknown}

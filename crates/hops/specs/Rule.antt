@@ -2,7 +2,7 @@
 -- one less. By it alone each entry is the length of a shortest path from relay 0 (`rule-shortest`), over any mesh whose links go both ways.
 -- Assumes nothing.
 use Prim.Native.Nat.{ℕ, zero, suc, _+_, _≤_, _<_}
-use mathlib.Core.Path.{_≡_, refl, sym, ap, _∙_, subst}
+use mathlib.Core.Path.{_≡_, refl, sym, ap, _∙_}
 use mathlib.Core.Bool.{true}
 use mathlib.Core.Logic.{_≢_}
 use native.Mathlib.Omega.{arith}

@@ -1,11 +1,11 @@
 -- The tables keep the rule: one test, computed over each whole table (`passes`), and one law that makes of it the rule (`tested-rule`). So
 -- each entry is the length of a shortest path from relay 0 (`entry-shortest`). No entry is above 4, 8 and 16, and one is as high (`largest`).
 -- Assumes nothing.
-use Prim.Native.Nat.{ℕ, zero, suc, _+_, _*_, _/_, _%_, _^_, _≤_, _<_}
+use Prim.Native.Nat.{ℕ, zero, suc, _+_, _≤_, _<_}
 use mathlib.Core.Path.{_≡_, refl, sym, ap, _∙_, subst}
-use mathlib.Core.Bool.{Bool, true, false, _&&_}
+use mathlib.Core.Bool.{Bool, true, _&&_}
 use mathlib.Core.List.{List, [], _∷_}
-use mathlib.Core.Logic.{_⊎_, inl, inr, ⊎-elim, _≢_}
+use mathlib.Core.Logic.{_≢_}
 use native.Mathlib.Nat.{add-zero, zero-add, add-suc, suc-add}
 use native.Mathlib.Omega.{arith}
 use lib.Dec.{eqb, leb}
@@ -13,9 +13,9 @@ use lib.ListN.{length, getD}
 use lib.Pow.{pow-pos}
 use borrow.Author.Tests.{eqb-true, leb-true, ne-eqb}
 use Rattle.bits.specs.Bit.{flip}
-use Rattle.scan.specs.Scan.{pick, seek, any, found}
+use Rattle.scan.specs.Scan.{pick, seek, any}
 use Rattle.scan.specs.Laws.{any-true}
-use Rattle.two.specs.Two.{relays, linked, two}
+use Rattle.two.specs.Two.{relays, two}
 use Rattle.two.specs.Near.{near, near-linked, near-below, linked-near}
 use Rattle.two.specs.Links.{both-true, linked-sym}
 use Rattle.hops.specs.Rule.{Rule, rule-shortest}

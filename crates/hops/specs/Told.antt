@@ -1,6 +1,6 @@
 -- What `distance` tells: refusals 1, 9, 2, 5 in this order, or the fewest links.
 use Prim.Native.Nat.{ℕ, _≤_, _<_}
-use mathlib.Core.Bool.{Bool, false, not}
+use mathlib.Core.Bool.{false, not}
 use mathlib.Core.Option.{Option}
 use lib.Dec.{ltb}
 use Rattle.answers.specs.Told.{Told, tell}

@@ -1,14 +1,13 @@
 -- Paths of links over any mesh (`Way`), the shortest (`Shortest`), and the distance: the fewest links of a path (`distance`).
 -- `shortest-distance`: the length of a shortest path is the distance; `distance-shortest`: the other way round. Assumes nothing.
-use Prim.Native.Nat.{ℕ, zero, suc, _+_, _≤_, _<_}
+use Prim.Native.Nat.{ℕ, zero, suc, _≤_, _<_}
 use mathlib.Core.Path.{_≡_, refl, sym, ap, ap₂, _∙_, subst}
-use mathlib.Core.Bool.{Bool, true, false, _&&_}
-use mathlib.Core.Logic.{_⊎_, inl, inr, ⊎-elim}
+use mathlib.Core.Bool.{Bool, true, _&&_}
 use native.Mathlib.Omega.{arith}
 use lib.Dec.{eqb}
 use borrow.Author.Tests.{eqb-true, eq-eqb}
-use Rattle.scan.specs.Scan.{Spot, at, seek, any}
-use Rattle.scan.specs.Laws.{First, not-true, any-true, true-any, first-seek}
+use Rattle.scan.specs.Scan.{seek, any}
+use Rattle.scan.specs.Laws.{not-true, any-true, true-any, first-seek}
 use Rattle.paths.specs.Mesh.{Mesh}
 use Rattle.paths.specs.Walk.{number}
 use Rattle.two.specs.Links.{both-true}

@@ -1,9 +1,9 @@
 -- The mesh as a relay sees it: links are kept both ways (`seen-joined`, `seen-linked`), the relay itself becomes relay 0 (`seen-home`), and
 -- each relay is seen as one relay and each is one so seen (`seen-below`, `unseen-below`, `seen-unseen`, `unseen-seen`). Assumes nothing.
-use Prim.Native.Nat.{ℕ, _+_, _*_, _^_, _<_}
-use mathlib.Core.Path.{_≡_, refl, sym, ap, ap₂, _∙_}
-use mathlib.Core.Bool.{Bool, true, _&&_, _||_}
-use native.Mathlib.Nat.{zero-mul, zero-add}
+use Prim.Native.Nat.{ℕ, _+_, _^_, _<_}
+use mathlib.Core.Path.{_≡_, sym, ap, ap₂, _∙_}
+use mathlib.Core.Bool.{Bool, _&&_, _||_}
+use native.Mathlib.Nat.{zero-mul}
 use lib.Bits.{bitXor, xor-lt, xor-self}
 use lib.Count.{ones}
 use lib.Dec.{eqb}

@@ -1,12 +1,10 @@
 -- `hops::distance` meets its contract. Assumes nothing.
 use Prim.Native.Nat.{ℕ, _<_}
-use mathlib.Core.Path.{_≡_, _∙_, sym, ap, subst}
-use mathlib.Core.Option.{none, some}
+use mathlib.Core.Path.{_∙_, sym, ap, subst}
 use borrow.Author.Needs.{needs}
 use Rattle.answers.specs.Told.{told, against}
 use Rattle.answers.specs.declared.Refusal.the-variants.{UnknownSize, NoDistance}
 use Rattle.two.specs.Two.{relays, two}
-use Rattle.two.specs.Seen.{seen}
 use Rattle.two.specs.Moves.{seen-below}
 use Rattle.two.specs.Parts.{known-bounds}
 use Rattle.two.specs.Refusals.{Fine, fine, tell-value, tell-refusal}

@@ -1,5 +1,5 @@
 -- `two_cases::places` meets its contract. The measure is what is left of the slice. Assumes nothing.
-use Prim.Native.Nat.{ℕ, _≤_, _-_}
+use Prim.Native.Nat.{_≤_, _-_}
 use lib.ListN.{length}
 use borrow.Author.Needs.{needs}
 use Rattle.two_cases.proofs.places.Statement.{statement}
