@@ -166,41 +166,122 @@ fn spread(order: Order, relays: u64, count: u64) {
     }
 }
 
-// Relay 7 of order 1 is one, relay 8 is none; block 3 is the last, and slot 1.
-fn case_l() {
-    pair(Order(1), 7, 7);
-    pair(Order(1), 8, 0);
-    pair(Order(1), 0, 8);
-    pair(Order(1), 8, 8);
-    parts(Order(1), Block(3), Slot(1), Block(0), Slot(0));
-    parts(Order(1), Block(4), Slot(0), Block(0), Slot(0));
-    parts(Order(1), Block(0), Slot(2), Block(0), Slot(0));
-    parts(Order(1), Block(0), Slot(0), Block(4), Slot(0));
-    parts(Order(1), Block(0), Slot(0), Block(0), Slot(2));
+// Pairs from a list: order, source, target.
+fn pairs_of(list: &[u64]) {
+    let mut i: usize = 0;
+    while i + 3 <= list.len() {
+        pair(Order(list[i]), list[i + 1], list[i + 2]);
+        i += 3;
+    }
 }
 
-// Orders that are none, and the last that is one.
+// The same by parts: order, block, slot, block, slot.
+fn parts_of(list: &[u64]) {
+    let mut i: usize = 0;
+    while i + 5 <= list.len() {
+        parts(
+            Order(list[i]),
+            Block(list[i + 1]),
+            Slot(list[i + 2]),
+            Block(list[i + 3]),
+            Slot(list[i + 4]),
+        );
+        i += 5;
+    }
+}
+
+// The facts of the orders from 0 to 6.
+fn orders() {
+    let mut m: u64 = 0;
+    while m < 7 {
+        facts(Order(m));
+        m += 1;
+    }
+}
+
+// L: relay 7 of order 1 is one, relay 8 is none; block 3 is the last, and slot 1.
+fn case_l() {
+    pairs_of(&[1, 7, 7, 1, 8, 0, 1, 0, 8, 1, 8, 8]);
+    parts_of(
+        &[
+            1,
+            3,
+            1,
+            0,
+            0,
+            1,
+            4,
+            0,
+            0,
+            0,
+            1,
+            0,
+            2,
+            0,
+            0,
+            1,
+            0,
+            0,
+            4,
+            0,
+            1,
+            0,
+            0,
+            0,
+            2,
+        ],
+    );
+}
+
+// J: order 5 is one, orders 0 and 6 are none. A distance of order 4 is refused before its source.
 fn case_j() {
-    facts(Order(0));
-    facts(Order(5));
-    facts(Order(6));
-    facts(Order(18446744073709551615));
-    pair(Order(5), 137438953471, 0);
-    pair(Order(5), 137438953472, 0);
-    pair(Order(6), 0, 0);
-    pair(Order(0), 0, 0);
-    pair(Order(4), 1048576, 1048576);
-    parts(Order(6), Block(0), Slot(0), Block(0), Slot(0));
-    parts(Order(0), Block(0), Slot(0), Block(0), Slot(0));
-    parts(Order(5), Block(4294967295), Slot(31), Block(0), Slot(0));
-    parts(Order(5), Block(4294967296), Slot(31), Block(0), Slot(32));
+    pairs_of(
+        &[
+            5,
+            137438953471,
+            0,
+            5,
+            137438953472,
+            0,
+            6,
+            0,
+            0,
+            0,
+            0,
+            0,
+            4,
+            1048576,
+            1048576,
+        ],
+    );
+    parts_of(
+        &[
+            6,
+            0,
+            0,
+            0,
+            0,
+            0,
+            0,
+            0,
+            0,
+            0,
+            5,
+            4294967295,
+            31,
+            0,
+            0,
+            5,
+            4294967296,
+            31,
+            0,
+            32,
+        ],
+    );
 }
 
 fn main() {
-    facts(Order(1));
-    facts(Order(2));
-    facts(Order(3));
-    facts(Order(4));
+    orders();
     case_j();
     case_l();
     rooms();
