@@ -26,10 +26,10 @@ def prepare(copy):
     """A copy of the repository as far as the crate two reaches, with one crate more."""
     for name in DEPENDS:
         shutil.copytree(os.path.join(ROOT, "crates", name), os.path.join(copy, "crates", name))
-    for kind, ending in (("rlib", ".rlib"), ("stamp", "")):
-        os.makedirs(os.path.join(copy, "target", kind))
-        for name in DEPENDS:
-            shutil.copy(os.path.join(ROOT, "target", kind, name + ending), os.path.join(copy, "target", kind))
+    os.makedirs(os.path.join(copy, "target/stamp"))
+    for name in DEPENDS:
+        shutil.copytree(os.path.join(ROOT, "target/rlib", name + ".rlib"), os.path.join(copy, "target/rlib", name + ".rlib"))
+        shutil.copy(os.path.join(ROOT, "target/stamp", name), os.path.join(copy, "target/stamp"))
     with open(os.path.join(ROOT, "crates.txt"), encoding="utf-8") as listed:
         lines = [x for x in listed if x.split(":")[0] in DEPENDS]
     with open(os.path.join(copy, "crates.txt"), "w", encoding="utf-8") as listed:
