@@ -7,14 +7,13 @@ use mathlib.Core.Logic.{⊎-elim}
 use mathlib.Core.List.{List, [], _∷_}
 use mathlib.Core.Option.{Option, none, some}
 use native.Mathlib.Omega.{arith}
-use lib.Bits.{bitXor, xor-self, xor-comm}
 use lib.Count.{ones, ones-ones}
 use lib.Dec.{leb, ltb}
 use lib.ListN.{length, drop, getD, length-drop}
 use lib.Seq.{getD-drop, ext-getD}
-use borrow.Author.Tests.{eq-eqb, leb-true, ltb-false, leb-false}
+use borrow.Author.Tests.{leb-true, ltb-false, leb-false}
 use Rattle.bits.specs.Bit.{bit, flip}
-use Rattle.bits.specs.Laws.{bit-lt, bit-none, clash, lt-or-le, flip-lt, flip-xor, ones-set, ones-zero}
+use Rattle.bits.specs.Laws.{bit-lt, bit-none, clash, lt-or-le, flip-lt, ones-zero}
 use Rattle.scan.specs.Scan.{pick}
 use Rattle.scan.specs.Laws.{true-false}
 use Rattle.answers.specs.Order.{first, refuse, requestFaults}
@@ -28,6 +27,7 @@ use Rattle.paths.specs.Fan.{filler, relay, hops, Fan}
 use Rattle.paths.specs.Lists.{In, Chain, Lists, laid-in, laid-fan}
 use Rattle.paths.specs.Lists as lists
 use Rattle.cube.specs.Cube.{known, linked, cube}
+use Rattle.cube.specs.Links.{linked-flip}
 use Rattle.doors.specs.Doors.{Walk, Way}
 use Rattle.doors.specs.Paths.{flip-moves}
 use Rattle.doors.specs.Masks.{less, bit-less}
@@ -37,14 +37,6 @@ use Rattle.cube_plan.specs.Fan.{Sought, Given}
 use Rattle.cube_fan.specs.Promise.{short, badDoors, faults, Planned, Through, PlannedThrough}
 
 -- ---- from doors to the cube
-
--- a changed bit is a link
-pub linked-flip : (u i : ℕ) → linked u (flip u i) ≡ true
-unfolding linked
-linked-flip u i =
-    let one : ones (bitXor u (flip u i)) ≡ 1 =
-    ap ones (xor-comm u (flip u i) ∙ flip-xor u i u ∙ ap (λ (x : ℕ). flip x i) (xor-self u)) ∙ ones-set i 0 (bit-none i) ∙ ap (λ (x : ℕ). x + 1) ones-zero in
-    eq-eqb (ones (bitXor u (flip u i))) 1 one
 
 walk-chain : (n free u t : ℕ) (l : List ℕ) → ((i : ℕ) → bit i free ≡ 1 → i < n) → u < 2 ^ n → Walk free u t l → Chain (cube n) u t l
 walk-chain n free u t [] h lt w = w

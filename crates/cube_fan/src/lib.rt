@@ -4,32 +4,21 @@ ghost use mathlib.Core.Bool.{true, false};
 ghost use Prim.Native.Nat.{_+_, _-_, _*_, _^_, _≤_};
 ghost use lib.Count.{ones};
 ghost use lib.Dec.{leb, ltb};
-ghost use lib.ListN.{length};
 ghost use Rattle.scan.specs.Scan.{pick};
 ghost use Rattle.answers.specs.Told.{against};
-ghost use Rattle.cube.specs.Cube as cube;
 ghost use Rattle.doors.specs.Masks as masks;
 ghost use Rattle.cube_fan.specs.Promise.{faults, badDoors, Planned, PlannedThrough};
 ghost use Rattle.cube_fan.specs.Laws.{early, Asked, Laid};
 use answers::Checked;
 use answers::Refusal;
-
-// Whether there is a cube of n dimensions.
-fn known(n: u64) -> bool
-    ensures { λ r. ⌜ r ≡ cube.known n ⌝ }
-{
-    if 1 <= n {
-        return n <= 32;
-    }
-    false
-}
+use cube::Size;
 
 // What stands against a request whatever its doors and the slices lent: 1 to 7.
-fn request(n: u64, source: u64, targets: &[u64]) -> Checked
-    ensures { λ r. ⌜ against r ≡ early n source (now (targets .entry)) ⌝ }
+fn request(size: Size, source: u64, targets: &[u64]) -> Checked
+    ensures { λ r. ⌜ against r ≡ early (size .0) source (now (targets .entry)) ⌝ }
 {
-    if known(n) {
-        return requests::request(grid::pow(n as u32), n, source, targets);
+    if size.known() {
+        return requests::request(cube::power(size.0), size.0, source, targets);
     }
     Checked::Refused(Refusal::UnknownSize)
 }
@@ -50,7 +39,7 @@ fn bad_doors(n: u64, doors: u64, k: usize) -> bool
     requires { ⌜ n ≤ 32 ⌝ }
     ensures { λ r. ⌜ r ≡ pick (leb (2 ^ n) doors) true (ltb (ones doors) k) ⌝ }
 {
-    if grid::pow(n as u32) <= doors {
+    if cube::power(n) <= doors {
         return true;
     }
     (u64::count_ones(doors) as usize) < k
@@ -61,7 +50,7 @@ fn others(n: u64, doors: u64) -> u64
     requires { ⌜ n ≤ 32 ⌝ }
     ensures { λ r. ⌜ r ≡ masks.less (2 ^ n - 1) doors ⌝ }
 {
-    grid::less(grid::pow(n as u32) - 1, doors)
+    grid::less(cube::power(n) - 1, doors)
 }
 
 // The fan for a request that is sound, through doors that are not shut; refused where there is no room.
@@ -83,39 +72,45 @@ fn lay(
     Checked::Fine
 }
 
-// A fan in the cube of n dimensions from the source to the targets, in their order. Path i stands from the place i * (n + 2) on, source first
-// and 2^64 - 1 in the places after its end; its hops stand in the counts at i. In the cube of 2 dimensions, from 0 to 3 and 1, it is 0, 2, 3 and 0, 1:
-// the places then hold 0 2 3 F 0 1 F F, where F is 2^64 - 1, and the counts 2 1.
-pub fn plan(n: u64, source: u64, targets: &[u64], places: &mut [u64], counts: &mut [u64]) -> Checked
-    ensures { λ r. ⌜ Planned (faults n source (now (targets .entry)) false (now (places .entry)) (now (counts .entry))) n source (now (targets .entry)) (now (places .entry)) (now (counts .entry)) r (now (places .exit)) (now (counts .exit)) ⌝ }
+// A fan in a cube from the source to the targets, in their order. In the cube of n dimensions path i stands from the place i * (n + 2) on, source
+// first and 2^64 - 1 in the places after its end; its hops stand in the counts at i. In `Size(2)`, from 0 to 3 and 1, it is 0, 2, 3 and 0, 1: the
+// places then hold 0 2 3 F 0 1 F F, where F is 2^64 - 1, and the counts 2 1.
+pub fn plan(
+    size: Size,
+    source: u64,
+    targets: &[u64],
+    places: &mut [u64],
+    counts: &mut [u64],
+) -> Checked
+    ensures { λ r. ⌜ Planned (faults (size .0) source (now (targets .entry)) false (now (places .entry)) (now (counts .entry))) (size .0) source (now (targets .entry)) (now (places .entry)) (now (counts .entry)) r (now (places .exit)) (now (counts .exit)) ⌝ }
 {
-    let checked = request(n, source, targets);
+    let checked = request(size, source, targets);
     if let Checked::Refused(why) = checked {
         return Checked::Refused(why);
     }
-    lay(n, source, 0, targets, places, counts)
+    lay(size.0, source, 0, targets, places, counts)
 }
 
 // The same through doors: bit i of `doors` says that a path may leave the source by its link i. No path meets a neighbour of the source behind a
-// shut door but as its own end. There must be as many doors as targets: through the doors 2 (link 1 alone) the path from 0 to 1 in the cube of 2
-// dimensions is 0, 2, 3, 1.
+// shut door but as its own end. There must be as many doors as targets: through the doors 2 (link 1 alone) the path from 0 to 1 in `Size(2)` is
+// 0, 2, 3, 1.
 pub fn plan_through(
-    n: u64,
+    size: Size,
     source: u64,
     doors: u64,
     targets: &[u64],
     places: &mut [u64],
     counts: &mut [u64],
 ) -> Checked
-    ensures { λ r. ⌜ PlannedThrough (faults n source (now (targets .entry)) (badDoors n doors (now (targets .entry))) (now (places .entry)) (now (counts .entry))) n source doors (now (targets .entry)) (now (places .entry)) (now (counts .entry)) r (now (places .exit)) (now (counts .exit)) ⌝ }
+    ensures { λ r. ⌜ PlannedThrough (faults (size .0) source (now (targets .entry)) (badDoors (size .0) doors (now (targets .entry))) (now (places .entry)) (now (counts .entry))) (size .0) source doors (now (targets .entry)) (now (places .entry)) (now (counts .entry)) r (now (places .exit)) (now (counts .exit)) ⌝ }
 {
-    let checked = request(n, source, targets);
+    let checked = request(size, source, targets);
     if let Checked::Refused(why) = checked {
         return Checked::Refused(why);
     }
-    if bad_doors(n, doors, targets.len()) {
+    if bad_doors(size.0, doors, targets.len()) {
         return Checked::Refused(Refusal::BadDoors);
     }
-    let shut = others(n, doors);
-    lay(n, source, shut, targets, places, counts)
+    let shut = others(size.0, doors);
+    lay(size.0, source, shut, targets, places, counts)
 }

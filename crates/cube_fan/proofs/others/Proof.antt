@@ -8,20 +8,17 @@ use Rattle.doors.specs.Masks.{less}
 use Rattle.cube_fan.proofs.others.Statement.{statement}
 use Rattle.cube_fan.proofs.others.Tie as tie
 
-cast-pow : tie.Need-cast-pow
-cast-pow c = search needs
-
-pow-requires : tie.Need-pow-requires
-pow-requires c κs = search needs
+power-requires : tie.Need-power-requires
+power-requires c κs = search needs
 
 sub-less : tie.Need-sub-less
-sub-less c = let some = pow-pos (c .before .args .n) in omega (arith, c .pow .ensures)
+sub-less c = let some = pow-pos (c .before .args .n) in omega (arith, c .power .ensures)
 
 less-requires : tie.Need-less-requires
 less-requires c κs = search needs
 
 returns : tie.Need-returns
-returns c = c .less .ensures ∙ ap (λ (p : ℕ). less (p - 1) (c .before .before .args .doors)) (c .before .pow .ensures)
+returns c = c .less .ensures ∙ ap (λ (p : ℕ). less (p - 1) (c .before .before .args .doors)) (c .before .power .ensures)
 
 pub others-spec : {M : Type 1} → statement M
-others-spec = tie.close (tie.spec cast-pow pow-requires sub-less less-requires returns)
+others-spec = tie.close (tie.spec power-requires sub-less less-requires returns)

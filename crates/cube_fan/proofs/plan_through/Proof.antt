@@ -21,7 +21,7 @@ enum-told c = search needs
 bad-doors-requires : tie.Need-bad-doors-requires
 bad-doors-requires c κs =
     let a = c .before .before .before .before .before .before .args in
-    asked (a .n) (a .source) (a .targets .now) (sym (c .before .before .request .ensures) ∙ ap against (c .enum-told .given .1)) .size
+    asked (a .size .0) (a .source) (a .targets .now) (sym (c .before .before .request .ensures) ∙ ap against (c .enum-told .given .1)) .size
 
 returns-2 : tie.Need-returns-2
 returns-2 c =
@@ -32,7 +32,7 @@ others-requires : tie.Need-others-requires
 others-requires c κs =
     let t = c .before .before in
     let a = t .before .before .before .before .before .before .args in
-    asked (a .n) (a .source) (a .targets .now) (sym (t .before .before .request .ensures) ∙ ap against (t .enum-told .given .1)) .size
+    asked (a .size .0) (a .source) (a .targets .now) (sym (t .before .before .request .ensures) ∙ ap against (t .enum-told .given .1)) .size
 
 lay-requires : tie.Need-lay-requires
 lay-requires c κs =

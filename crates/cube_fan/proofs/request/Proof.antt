@@ -9,11 +9,8 @@ use Rattle.cube_fan.proofs.request.Tie as tie
 known-requires : tie.Need-known-requires
 known-requires c κs = search needs
 
-cast-pow : tie.Need-cast-pow
-cast-pow c = let few = known-size (c .before .before .before .args .n) (sym (c .before .known .ensures) ∙ c .if1 .taken) in search needs
-
-pow-requires : tie.Need-pow-requires
-pow-requires c κs = omega (arith, known-size (c .before .before .before .args .n) (sym (c .before .known .ensures) ∙ c .if1 .taken))
+power-requires : tie.Need-power-requires
+power-requires c κs = omega (arith, known-size (c .before .before .before .args .size .0) (sym (c .before .known .ensures) ∙ c .if1 .taken))
 
 request-requires : tie.Need-request-requires
 request-requires c κs = search needs
@@ -21,13 +18,13 @@ request-requires c κs = search needs
 returns : tie.Need-returns
 returns c =
     let a = c .before .before .before .before .before .args in
-    early-known (a .n) _ (a .source) (a .targets .now) (sym (c .before .before .before .known .ensures) ∙ c .before .before .if1 .taken) (c .before .pow .ensures) (c .request .ensures)
+    early-known (a .size .0) _ (a .source) (a .targets .now) (sym (c .before .before .before .known .ensures) ∙ c .before .before .if1 .taken) (c .before .power .ensures) (c .request .ensures)
 
 returns-2 : tie.Need-returns-2
 returns-2 c =
     let a = c .before .before .before .args in
-    early-unknown (a .n) (a .source) (a .targets .now) (sym (c .before .known .ensures) ∙ c .if1 .left)
+    early-unknown (a .size .0) (a .source) (a .targets .now) (sym (c .before .known .ensures) ∙ c .if1 .left)
 
 pub request-spec : {M : Type 1} → statement M
 request-spec =
-    tie.close (tie.spec known-requires cast-pow pow-requires request-requires returns returns-2)
+    tie.close (tie.spec known-requires power-requires request-requires returns returns-2)
