@@ -1,16 +1,19 @@
--- Answers that tell the same are the same (`answer-unique`, `yes-no-unique`): so a promise of what an answer tells leaves one answer.
--- Assumes nothing.
+-- Answers that tell the same are the same (`answer-unique`, `yes-no-unique`, `checked-unique`): so a promise of what an answer tells leaves
+-- one answer. Assumes nothing.
 use Prim.Native.Nat.{ℕ, zero, suc}
 use mathlib.Core.Path.{_≡_, refl, sym, ap, _∙_}
 use mathlib.Core.Bool.{Bool, true, false}
 use mathlib.Core.Option.{Option, none, some}
+use native.Mathlib.Omega.{arith}
 use lib.Dec.{eqb}
 use Rattle.scan.specs.Scan.{pick}
-use Rattle.answers.specs.Told.{number, place, Told, told, tell, answerTold, yesNoTold}
+use Rattle.answers.specs.Told.{number, place, Told, told, tell, answerTold, yesNoTold, against}
 use Rattle.answers.specs.declared.Refusal.{Refusal}
 use Rattle.answers.specs.declared.Refusal.the-variants.{Unreadable, UnknownSize, NoDistance, SourceOut, NoTarget, TooMany, TargetOut, TargetIsSource, TargetAgain, BadDoors, NoRoom}
 use Rattle.answers.specs.declared.Answer.{Answer}
 use Rattle.answers.specs.declared.Answer.the-variants as answer
+use Rattle.answers.specs.declared.Checked.{Checked}
+use Rattle.answers.specs.declared.Checked.the-variants as checked
 use Rattle.answers.specs.declared.YesNo.{YesNo}
 use Rattle.answers.specs.declared.YesNo.the-variants as yesno
 
@@ -82,3 +85,12 @@ yes-no-back (yesno.Refused why) =
 
 pub yes-no-unique : (a b : YesNo) → yesNoTold a ≡ yesNoTold b → a ≡ b
 yes-no-unique a b e = sym (yes-no-back a) ∙ ap yesNoOf e ∙ yes-no-back b
+
+pub checked-unique : (a b : Checked) → against a ≡ against b → a ≡ b
+checked-unique checked.Fine checked.Fine e = refl
+checked-unique checked.Fine (checked.Refused why) e = let z : _≡_ {A = ℕ} 0 1 = cc in absurd (omega arith)
+checked-unique (checked.Refused why) checked.Fine e = let z : _≡_ {A = ℕ} 0 1 = cc in absurd (omega arith)
+checked-unique (checked.Refused why) (checked.Refused other) e = ap checked.Refused (inner e)
+  where
+    inner : {x y : Refusal} → some x ≡ some y → x ≡ y
+    inner e = cc
