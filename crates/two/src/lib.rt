@@ -1,0 +1,38 @@
+// The two-level mesh of orders 1 to 5: its sizes, blocks and slots, links, next hop and plain route, and the mesh as one of its relays
+// sees it. A routine that takes a relay's number has a twin (`.._parts`) that takes its block and its slot, each under its own type.
+mod links;
+mod parts;
+mod routes;
+mod sizes;
+mod steps;
+mod views;
+
+pub use links::joined;
+pub use links::link;
+pub use links::linked;
+pub use links::linked_parts;
+pub use parts::Block;
+pub use parts::Slot;
+pub use parts::Place;
+pub use parts::split;
+pub use parts::number;
+pub use parts::block_of;
+pub use parts::named;
+pub use parts::relay_of;
+pub use parts::slot_of;
+pub use routes::route;
+pub use routes::route_parts;
+pub use sizes::Order;
+pub use sizes::blocks_in;
+pub use sizes::longest_in;
+pub use sizes::relays_in;
+pub use sizes::slots_in;
+pub use steps::hop;
+pub use steps::next_hop;
+pub use steps::next_hop_parts;
+pub use steps::step;
+pub use views::seen;
+pub use views::seen_block;
+pub use views::seen_from;
+pub use views::seen_parts;
+pub use views::seen_slot;
