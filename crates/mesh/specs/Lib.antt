@@ -1,0 +1,4 @@
+-- The kinds of mesh, and what is told over all of them.
+pub mod Kinds
+pub mod Says
+pub mod Laws
