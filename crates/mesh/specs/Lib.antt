@@ -2,3 +2,4 @@
 pub mod Kinds
 pub mod Says
 pub mod Laws
+pub mod Requests

@@ -1,0 +1,75 @@
+-- What stands against a request over a mesh, as code finds it: 1 to 7 first, room last (`request-refused`, `request-short`,
+-- `request-granted`); and what a request is that none of 1 to 7 stands against (`request-fine`). Assumes nothing.
+use Prim.Native.Nat.{ℕ}
+use mathlib.Core.Path.{_≡_, refl, sym, ap, _∙_}
+use mathlib.Core.Bool.{Bool, true, false, not}
+use mathlib.Core.List.{List}
+use mathlib.Core.Option.{Option, none, some}
+use native.Mathlib.Omega.{arith}
+use borrow.Author.Tests.{not-false}
+use Rattle.answers.specs.Order.{first, refuse, requestFaults}
+use Rattle.answers.specs.Told.{against}
+use Rattle.answers.specs.declared.Refusal.{Refusal}
+use Rattle.answers.specs.declared.Refusal.the-variants.{UnknownSize, NoRoom}
+use Rattle.answers.specs.declared.Checked.{Checked}
+use Rattle.answers.specs.declared.Checked.the-variants as checked
+use Rattle.requests.specs.Sound.{before, faults-parts, Sound, sound}
+use Rattle.mesh.specs.Kinds.{Kind}
+use Rattle.mesh.specs.Says.{requestAgainst}
+
+-- ---- the parts
+
+some-not-none : {why : Refusal} {A : Type 0} → _≡_ {A = Option Refusal} (some why) none → A
+some-not-none e = let z : _≡_ {A = ℕ} 0 1 = cc in absurd (omega arith)
+
+unknown-first : (u : Bool) (mid after : Option Refusal)
+    → refuse u UnknownSize (before mid after) ≡ before (refuse u UnknownSize (before mid none)) after
+unknown-first true mid after = refl
+unknown-first false none after = refl
+unknown-first false (some why) after = refl
+
+neither : (u : Bool) (mid : Option Refusal) → refuse u UnknownSize (before mid none) ≡ none → (u ≡ false) × (mid ≡ none)
+neither true mid e = some-not-none e
+neither false none e = (refl, refl)
+neither false (some why) e = some-not-none e
+
+-- nothing of 1 to 7: there is the mesh, and the request is sound in it
+pub record Fine (K : Kind) (n s : ℕ) (targets : List ℕ) : Type 0 where
+  pub known : K .known n ≡ true
+  pub sound : Sound (K .mesh n .relays) (K .mesh n .links) s targets
+
+module _ (K : Kind) (n s : ℕ) (targets : List ℕ) where
+  abbrev middle : Option Refusal
+  middle = first (requestFaults false (K .mesh n .relays) (K .mesh n .links) s targets false false)
+
+  parts : (room : Bool) → requestAgainst K n s targets room ≡ refuse (not (K .known n)) UnknownSize (before middle (refuse room NoRoom none))
+  parts room = faults-parts (not (K .known n)) (K .mesh n .relays) (K .mesh n .links) s targets false room
+
+  -- want of room is told last
+  pub request-room : (room : Bool) → requestAgainst K n s targets room ≡ before (requestAgainst K n s targets false) (refuse room NoRoom none)
+  request-room room =
+      parts room
+      ∙ unknown-first (not (K .known n)) middle (refuse room NoRoom none)
+      ∙ ap (λ (o : Option Refusal). before o (refuse room NoRoom none)) (sym (parts false))
+
+  pub request-fine : requestAgainst K n s targets false ≡ none → Fine K n s targets
+  request-fine e =
+      let r = neither (not (K .known n)) middle (sym (parts false) ∙ e) in
+      record { known = not-false (K .known n) (r .0); sound = sound (K .mesh n .relays) (K .mesh n .links) s targets (r .1) }
+
+  -- ---- as code goes through them: what was checked, then room
+  module _ {r : Checked} (e : against r ≡ requestAgainst K n s targets false) where
+    pub checked-fine : r ≡ checked.Fine → Fine K n s targets
+    checked-fine f = request-fine (sym e ∙ ap against f)
+
+    checked-room : (room : Bool) {c : Checked} → r ≡ c → before (against c) (refuse room NoRoom none) ≡ requestAgainst K n s targets room
+    checked-room room f = sym (request-room room ∙ ap (λ (o : Option Refusal). before o (refuse room NoRoom none)) (sym e ∙ ap against f))
+
+    pub request-refused : {why : Refusal} (room : Bool) → r ≡ checked.Refused why → some why ≡ requestAgainst K n s targets room
+    request-refused room f = checked-room room f
+
+    pub request-short : {room : Bool} → r ≡ checked.Fine → room ≡ true → some NoRoom ≡ requestAgainst K n s targets room
+    request-short {room} f t = ap (λ (b : Bool). refuse b NoRoom none) (sym t) ∙ checked-room room f
+
+    pub request-granted : {room : Bool} → r ≡ checked.Fine → room ≡ false → none ≡ requestAgainst K n s targets room
+    request-granted {room} f t = ap (λ (b : Bool). refuse b NoRoom none) (sym t) ∙ checked-room room f
