@@ -1,6 +1,6 @@
 -- The first finding of a path, test by test as code goes through them: `too-long`, `not-long` to `not-filled`, `all-filled`. Assumes nothing.
 use Prim.Native.Nat.{ℕ, _+_, _-_, _≤_, _<_}
-use mathlib.Core.Path.{_≡_, sym, ap, ap₂, _∙_}
+use mathlib.Core.Path.{_≡_, refl, sym, ap, ap₂, _∙_}
 use mathlib.Core.Bool.{Bool, true, false, not}
 use mathlib.Core.Logic.{_≢_}
 use mathlib.Core.List.{List}
@@ -28,78 +28,115 @@ passed-by f rest e = sym (ap (λ (sp : Spot). report-at sp f rest) e)
 
 -- ---- one path
 
-module _ (m : Mesh) {w : ℕ} (s t : ℕ) (places counts : List ℕ) (i : ℕ) (wide : w ≡ width m) where
+-- a look at path i, which is to lead from s to t
+pub record Look : Type 0 where
+  pub m : Mesh
+  pub w : ℕ
+  pub s : ℕ
+  pub t : ℕ
+  pub places : List ℕ
+  pub counts : List ℕ
+  pub i : ℕ
+  pub wide : w ≡ width m
+
+module _ (l : Look) where
+  abbrev h : ℕ
+  h = hops (l .counts) (l .i)
+
+  -- what stands at place p, at the width that the definition has and at the one that code has
+  abbrev there : ℕ → ℕ
+  there p = relay (width (l .m)) (l .places) (l .i) p
+
+  abbrev here : ℕ → ℕ
+  here p = relay (l .w) (l .places) (l .i) p
+
   -- what is left to look for after each test: 25, 24 on, 23 on, 22 on, 21 on
-  abbrev from25 : Finding
-  from25 = report-at (unfilledAt m places counts i) (found 25 i) clean
+  abbrev pub from25 : Finding
+  from25 = report-at (unfilledAt (l .m) (l .places) (l .counts) (l .i)) (found 25 (l .i)) clean
 
-  abbrev from24 : Finding
-  from24 = report-at (seenAt (width m) places counts i) (found 24 i) from25
+  abbrev pub from24 : Finding
+  from24 = report-at (seenAt (width (l .m)) (l .places) (l .counts) (l .i)) (found 24 (l .i)) from25
 
-  abbrev from23 : Finding
-  from23 = report (not (eqb (relay (width m) places i (hops counts i)) t)) (found 23 i (hops counts i)) from24
+  abbrev pub from23 : Finding
+  from23 = report (not (eqb (there h) (l .t))) (found 23 (l .i) h) from24
 
-  abbrev from22 : Finding
-  from22 = report-at (unlinkedAt m places counts i) (found 22 i) from23
+  abbrev pub from22 : Finding
+  from22 = report-at (unlinkedAt (l .m) (l .places) (l .counts) (l .i)) (found 22 (l .i)) from23
 
-  abbrev from21 : Finding
-  from21 = report (not (eqb (relay (width m) places i 0) s)) (found 21 i 0) from22
+  abbrev pub from21 : Finding
+  from21 = report (not (eqb (there 0) (l .s))) (found 21 (l .i) 0) from22
+
+  abbrev pub from20 : Finding
+  from20 = findingOf (l .m) (l .s) (l .t) (l .places) (l .counts) (l .i) clean
 
   -- code's tests
-  differs : (p y : ℕ) {x : ℕ} → x ≡ relay w places i p → x ≢ y → not (eqb (relay (width m) places i p) y) ≡ true
-  differs p y e ne = ap not (ne-eqb (relay (width m) places i p) y (λ z. ne (e ∙ ap (λ (v : ℕ). relay v places i p) wide ∙ z)))
+  same-place : (p : ℕ) → here p ≡ there p
+  same-place p = ap (λ (v : ℕ). relay v (l .places) (l .i) p) (l .wide)
 
-  agrees : (p y : ℕ) {x : ℕ} → x ≡ relay w places i p → x ≡ y → not (eqb (relay (width m) places i p) y) ≡ false
-  agrees p y e f = ap not (eq-eqb (relay (width m) places i p) y (ap (λ (v : ℕ). relay v places i p) (sym wide) ∙ sym e ∙ f))
+  differs : (p y : ℕ) {x : ℕ} → x ≡ here p → x ≢ y → not (eqb (there p) y) ≡ true
+  differs p y e ne = ap not (ne-eqb (there p) y (λ z. ne (e ∙ same-place p ∙ z)))
+
+  agrees : (p y : ℕ) {x : ℕ} → x ≡ here p → x ≡ y → not (eqb (there p) y) ≡ false
+  agrees p y e f = ap not (eq-eqb (there p) y (sym (same-place p) ∙ sym e ∙ f))
 
   -- code's searches
-  unlinked-found : {sp : Spot} → sp ≡ seek (unlinked m places i) 1 (hops counts i) → unlinkedAt m places counts i ≡ sp
+  abbrev pub linkSpot : Spot
+  linkSpot = seek (unlinked (l .m) (l .places) (l .i)) 1 h
+
+  abbrev pub seenSpot : Spot
+  seenSpot = seek (seen (l .w) (l .places) (l .counts) (l .i)) 0 (h + 1)
+
+  abbrev pub fillSpot : Spot
+  fillSpot = seek (unfilled (l .w) (l .places) (l .i)) (h + 1) (l .w - (h + 1))
+
+  links-sought : linkSpot ≡ unlinkedAt (l .m) (l .places) (l .counts) (l .i)
   unfolding unlinkedAt
-  unlinked-found e = sym e
+  links-sought = refl
 
-  seen-found : {sp : Spot} → sp ≡ seek (seen w places counts i) 0 (hops counts i + 1) → seenAt (width m) places counts i ≡ sp
+  seen-sought : seenSpot ≡ seenAt (width (l .m)) (l .places) (l .counts) (l .i)
   unfolding seenAt
-  seen-found e = ap (λ (v : ℕ). seek (seen v places counts i) 0 (hops counts i + 1)) (sym wide) ∙ sym e
+  seen-sought = ap (λ (v : ℕ). seek (seen v (l .places) (l .counts) (l .i)) 0 (h + 1)) (l .wide)
 
-  unfilled-found : {sp : Spot} → sp ≡ seek (unfilled w places i) (hops counts i + 1) (w - (hops counts i + 1)) → unfilledAt m places counts i ≡ sp
+  fill-sought : fillSpot ≡ unfilledAt (l .m) (l .places) (l .counts) (l .i)
   unfolding unfilledAt
-  unfilled-found e =
-      ap₂ (λ (v n : ℕ). seek (unfilled v places i) (hops counts i + 1) n) (sym wide) (omega arith) ∙ sym e
+  fill-sought =
+      let left : l .w - (h + 1) ≡ l .m .longest - h = omega (arith, l .wide) in
+      ap₂ (λ (v n : ℕ). seek (unfilled v (l .places) (l .i)) (h + 1) n) (l .wide) left
 
-  pub too-long : w ≤ hops counts i → found 20 i 0 ≡ findingOf m s t places counts i clean
+  pub too-long : l .w ≤ h → found 20 (l .i) 0 ≡ from20
   unfolding findingOf
-  too-long h = reported (found 20 i 0) from21 (lt-ltb (m .longest) (hops counts i) (omega arith))
+  too-long g = reported (found 20 (l .i) 0) from21 (lt-ltb (l .m .longest) h (omega (arith, l .wide)))
 
-  pub not-long : hops counts i < w → from21 ≡ findingOf m s t places counts i clean
+  pub not-long : h < l .w → from21 ≡ from20
   unfolding findingOf
-  not-long h = passed (found 20 i 0) from21 (le-ltb (m .longest) (hops counts i) (omega arith))
+  not-long g = passed (found 20 (l .i) 0) from21 (le-ltb (l .m .longest) h (omega (arith, l .wide)))
 
-  pub wrong-start : {x : ℕ} → x ≡ relay w places i 0 → x ≢ s → found 21 i 0 ≡ from21
-  wrong-start e ne = reported (found 21 i 0) from22 (differs 0 s e ne)
+  pub wrong-start : {x : ℕ} → x ≡ here 0 → x ≢ l .s → found 21 (l .i) 0 ≡ from21
+  wrong-start e ne = reported (found 21 (l .i) 0) from22 (differs 0 (l .s) e ne)
 
-  pub right-start : {x : ℕ} → x ≡ relay w places i 0 → x ≡ s → from22 ≡ from21
-  right-start e f = passed (found 21 i 0) from22 (agrees 0 s e f)
+  pub right-start : {x : ℕ} → x ≡ here 0 → x ≡ l .s → from22 ≡ from21
+  right-start e f = passed (found 21 (l .i) 0) from22 (agrees 0 (l .s) e f)
 
-  pub wrong-link : {sp : Spot} {p : ℕ} → sp ≡ seek (unlinked m places i) 1 (hops counts i) → sp ≡ at p → found 22 i p ≡ from22
-  wrong-link e f = reported-at (found 22 i) from23 (unlinked-found e ∙ f)
+  pub wrong-link : {sp : Spot} {p : ℕ} → sp ≡ linkSpot → sp ≡ at p → found 22 (l .i) p ≡ from22
+  wrong-link e f = reported-at (found 22 (l .i)) from23 (sym links-sought ∙ sym e ∙ f)
 
-  pub right-links : {sp : Spot} → sp ≡ seek (unlinked m places i) 1 (hops counts i) → sp ≡ nowhere → from23 ≡ from22
-  right-links e f = passed-by (found 22 i) from23 (unlinked-found e ∙ f)
+  pub right-links : {sp : Spot} → sp ≡ linkSpot → sp ≡ nowhere → from23 ≡ from22
+  right-links e f = passed-by (found 22 (l .i)) from23 (sym links-sought ∙ sym e ∙ f)
 
-  pub wrong-end : {x : ℕ} → x ≡ relay w places i (hops counts i) → x ≢ t → found 23 i (hops counts i) ≡ from23
-  wrong-end e ne = reported (found 23 i (hops counts i)) from24 (differs (hops counts i) t e ne)
+  pub wrong-end : {x : ℕ} → x ≡ here h → x ≢ l .t → found 23 (l .i) h ≡ from23
+  wrong-end e ne = reported (found 23 (l .i) h) from24 (differs h (l .t) e ne)
 
-  pub right-end : {x : ℕ} → x ≡ relay w places i (hops counts i) → x ≡ t → from24 ≡ from23
-  right-end e f = passed (found 23 i (hops counts i)) from24 (agrees (hops counts i) t e f)
+  pub right-end : {x : ℕ} → x ≡ here h → x ≡ l .t → from24 ≡ from23
+  right-end e f = passed (found 23 (l .i) h) from24 (agrees h (l .t) e f)
 
-  pub seen-again : {sp : Spot} {p : ℕ} → sp ≡ seek (seen w places counts i) 0 (hops counts i + 1) → sp ≡ at p → found 24 i p ≡ from24
-  seen-again e f = reported-at (found 24 i) from25 (seen-found e ∙ f)
+  pub seen-again : {sp : Spot} {p : ℕ} → sp ≡ seenSpot → sp ≡ at p → found 24 (l .i) p ≡ from24
+  seen-again e f = reported-at (found 24 (l .i)) from25 (sym seen-sought ∙ sym e ∙ f)
 
-  pub none-seen : {sp : Spot} → sp ≡ seek (seen w places counts i) 0 (hops counts i + 1) → sp ≡ nowhere → from25 ≡ from24
-  none-seen e f = passed-by (found 24 i) from25 (seen-found e ∙ f)
+  pub none-seen : {sp : Spot} → sp ≡ seenSpot → sp ≡ nowhere → from25 ≡ from24
+  none-seen e f = passed-by (found 24 (l .i)) from25 (sym seen-sought ∙ sym e ∙ f)
 
-  pub not-filled : {sp : Spot} {p : ℕ} → sp ≡ seek (unfilled w places i) (hops counts i + 1) (w - (hops counts i + 1)) → sp ≡ at p → found 25 i p ≡ from25
-  not-filled e f = reported-at (found 25 i) clean (unfilled-found e ∙ f)
+  pub not-filled : {sp : Spot} {p : ℕ} → sp ≡ fillSpot → sp ≡ at p → found 25 (l .i) p ≡ from25
+  not-filled e f = reported-at (found 25 (l .i)) clean (sym fill-sought ∙ sym e ∙ f)
 
-  pub all-filled : {sp : Spot} → sp ≡ seek (unfilled w places i) (hops counts i + 1) (w - (hops counts i + 1)) → sp ≡ nowhere → clean ≡ from25
-  all-filled e f = passed-by (found 25 i) clean (unfilled-found e ∙ f)
+  pub all-filled : {sp : Spot} → sp ≡ fillSpot → sp ≡ nowhere → clean ≡ from25
+  all-filled e f = passed-by (found 25 (l .i)) clean (sym fill-sought ∙ sym e ∙ f)

@@ -14,9 +14,11 @@ use Rattle.paths.specs.Mesh.{Mesh, width}
 use Rattle.paths.specs.Fan.{hops}
 use Rattle.paths.specs.Finding.{Finding, clean, found, report, report-at, findingOf, findingFrom, finding}
 use Rattle.paths.specs.Clear.{path-clear}
-use Rattle.judge.specs.Verdict.{named}
+use Rattle.judge.specs.Verdict.{named, searchOf}
 use Rattle.judge.specs.Needs.{Row, Held}
 use Rattle.judge.specs.Rows.{row-below}
+use Rattle.judge.specs.declared.Search.{Search}
+use Rattle.judge.specs.declared.Search.the-variants as search
 use Rattle.judge.specs.declared.Finding as code
 use Rattle.judge.specs.declared.Finding.the-variants.{TooLong, NotFromSource, NotLinked, NotToTarget, SeenAgain, NotFilled}
 
@@ -95,22 +97,26 @@ module _ (m : Mesh) (s : ℕ) (targets places counts : List ℕ) where
       let c = path-clear m s (getD targets i 0) places counts i clean e .0 in
       record { counted = omega (arith, v .counted); row = record { room = search-room v l; short = omega (arith, c .short, v .wide) } }
 
-  pub search-goes-on : {w i : ℕ} → Searched w i → i < length targets → clean ≡ path i → Searched w (i + 1)
-  search-goes-on {w} {i} v l e = record {
+  pub search-goes-on : {w i : ℕ} {r : Search} → Searched w i → i < length targets → r ≡ search.Clean → searchOf r ≡ path i → Searched w (i + 1)
+  search-goes-on {w} {i} {r} v l g f = record {
     wide = v .wide;
     room = v .room;
     counted = v .counted;
-    rest = ap (λ (x : Finding). before x (from (i + 1))) e ∙ sym (from-path i l) ∙ v .rest;
+    rest = ap (λ (x : Finding). before x (from (i + 1))) nothing ∙ sym (from-path i l) ∙ v .rest;
     held = λ j h. go j h (ℕ-discrete j i);
   }
     where
+      nothing : clean ≡ path i
+      nothing = sym (ap searchOf g) ∙ f
+
       go : (j : ℕ) → j < i + 1 → Dec (j ≡ i) → Held w (length places) counts j
-      go j h (yes d) = rw d (clean-held v l (sym e))
+      go j h (yes d) = rw d (clean-held v l (sym nothing))
       go j h (no ne) = v .held j (omega arith)
 
-  pub search-finds : {w i : ℕ} (f : code.Finding) → Searched w i → i < length targets → named f ≡ path i → named f ≡ finding m s targets places counts
-  search-finds {w} {i} f v l e =
-      sym (before-named f (from (i + 1))) ∙ ap (λ (x : Finding). before x (from (i + 1))) e ∙ sym (from-path i l) ∙ v .rest
+  pub search-finds : {w i : ℕ} {f : code.Finding} {r : Search} → Searched w i → i < length targets → r ≡ search.Found f → searchOf r ≡ path i
+      → named f ≡ finding m s targets places counts
+  search-finds {w} {i} {f} {r} v l g e =
+      sym (before-named f (from (i + 1))) ∙ ap (λ (x : Finding). before x (from (i + 1))) (sym (ap searchOf g) ∙ e) ∙ sym (from-path i l) ∙ v .rest
 
   pub search-ends : {w i : ℕ} → Searched w i → length targets ≤ i → clean ≡ finding m s targets places counts
   unfolding findingFrom

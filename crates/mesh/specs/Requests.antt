@@ -1,12 +1,16 @@
 -- What stands against a request over a mesh, as code finds it: 1 to 7 first, room last (`request-refused`, `request-short`,
--- `request-granted`); and what a request is that none of 1 to 7 stands against (`request-fine`). Assumes nothing.
-use Prim.Native.Nat.{ℕ}
+-- `request-granted`); what a request is that none of 1 to 7 stands against (`request-fine`); and room for its paths (`room-enough`).
+-- Assumes nothing.
+use Prim.Native.Nat.{ℕ, _*_, _≤_}
 use mathlib.Core.Path.{_≡_, refl, sym, ap, _∙_}
 use mathlib.Core.Bool.{Bool, true, false, not}
 use mathlib.Core.List.{List}
 use mathlib.Core.Option.{Option, none, some}
 use native.Mathlib.Omega.{arith}
-use borrow.Author.Tests.{not-false}
+use lib.Dec.{ltb}
+use borrow.Author.Tests.{not-false, ltb-false}
+use Rattle.scan.specs.Scan.{pick}
+use Rattle.scan.specs.Laws.{true-false}
 use Rattle.answers.specs.Order.{first, refuse, requestFaults}
 use Rattle.answers.specs.Told.{against}
 use Rattle.answers.specs.declared.Refusal.{Refusal}
@@ -14,8 +18,9 @@ use Rattle.answers.specs.declared.Refusal.the-variants.{UnknownSize, NoRoom}
 use Rattle.answers.specs.declared.Checked.{Checked}
 use Rattle.answers.specs.declared.Checked.the-variants as checked
 use Rattle.requests.specs.Sound.{before, faults-parts, Sound, sound}
+use Rattle.paths.specs.Mesh.{Mesh, width}
 use Rattle.mesh.specs.Kinds.{Kind}
-use Rattle.mesh.specs.Says.{requestAgainst}
+use Rattle.mesh.specs.Says.{requestAgainst, short}
 
 -- ---- the parts
 
@@ -68,8 +73,19 @@ module _ (K : Kind) (n s : ℕ) (targets : List ℕ) where
     pub request-refused : {why : Refusal} (room : Bool) → r ≡ checked.Refused why → some why ≡ requestAgainst K n s targets room
     request-refused room f = checked-room room f
 
-    pub request-short : {room : Bool} → r ≡ checked.Fine → room ≡ true → some NoRoom ≡ requestAgainst K n s targets room
-    request-short {room} f t = ap (λ (b : Bool). refuse b NoRoom none) (sym t) ∙ checked-room room f
+    -- the flag is what code has of the want of room
+    pub request-short : {flag room : Bool} → r ≡ checked.Fine → flag ≡ room → flag ≡ true → some NoRoom ≡ requestAgainst K n s targets room
+    request-short {flag} {room} f w t = ap (λ (b : Bool). refuse b NoRoom none) (sym t ∙ w) ∙ checked-room room f
 
-    pub request-granted : {room : Bool} → r ≡ checked.Fine → room ≡ false → none ≡ requestAgainst K n s targets room
-    request-granted {room} f t = ap (λ (b : Bool). refuse b NoRoom none) (sym t) ∙ checked-room room f
+    pub request-granted : {flag room : Bool} → r ≡ checked.Fine → flag ≡ room → flag ≡ false → none ≡ requestAgainst K n s targets room
+    request-granted {flag} {room} f w t = ap (λ (b : Bool). refuse b NoRoom none) (sym t ∙ w) ∙ checked-room room f
+
+-- ---- room for paths
+
+-- slices that are not short hold k paths and their counts
+pub room-enough : {r : Bool} (m : Mesh) (k places counts : ℕ) → r ≡ short m k places counts → r ≡ false → (k * width m ≤ places) × (k ≤ counts)
+room-enough m k places counts e f = go (ltb places (k * width m)) refl (sym e ∙ f)
+  where
+    go : (b : Bool) → ltb places (k * width m) ≡ b → pick b true (ltb counts k) ≡ false → (k * width m ≤ places) × (k ≤ counts)
+    go true p q = absurd (true-false refl q)
+    go false p q = (ltb-false places (k * width m) p, ltb-false counts k q)
