@@ -51,6 +51,6 @@ verdict-back (verdict.Refused why) = refused-back why
 pub verdict-unique : (a b : Verdict) → verdictTold a ≡ verdictTold b → a ≡ b
 verdict-unique a b e = sym (verdict-back a) ∙ ap verdictOf e ∙ verdict-back b
 
-pub judge-unique : (K : Kind) (n s : ℕ) (targets places counts : List ℕ) (a b : Verdict)
-    → verdictTold a ≡ judgeTold K n s targets places counts → verdictTold b ≡ judgeTold K n s targets places counts → a ≡ b
-judge-unique K n s targets places counts a b p q = verdict-unique a b (p ∙ sym q)
+pub judge-unique : (K : Kind) (n s : ℕ) (targets places counts : List ℕ) (lacking : Bool) (a b : Verdict)
+    → verdictTold a ≡ judgeTold K n s targets places counts lacking → verdictTold b ≡ judgeTold K n s targets places counts lacking → a ≡ b
+judge-unique K n s targets places counts lacking a b p q = verdict-unique a b (p ∙ sym q)

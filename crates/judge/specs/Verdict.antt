@@ -1,8 +1,10 @@
 -- What a verdict tells: the specification's number, path and place. All are 0 of a fan; of a refusal the path is 0.
 use Prim.Native.Nat.{ℕ}
+use mathlib.Core.Bool.{Bool, true}
 use mathlib.Core.List.{List}
 use mathlib.Core.Option.{Option, none, some}
 use lib.ListN.{length}
+use Rattle.scan.specs.Scan.{pick}
 use Rattle.answers.specs.Told.{number, place}
 use Rattle.answers.specs.declared.Refusal.{Refusal}
 use Rattle.paths.specs.Finding.{Finding, clean, found, finding}
@@ -52,8 +54,12 @@ verdictTold verdict.Fan = rule none clean
 verdictTold (verdict.Found f) = rule none (named f)
 verdictTold (verdict.Refused why) = rule (some why) clean
 
--- what the judge tells: 1 to 7, then 8, then the first finding
-abbrev pub judgeTold : (K : Kind) (n s : ℕ) (targets places counts : List ℕ) → Ruling
-judgeTold K n s targets places counts =
-    rule (requestAgainst K n s targets (short (K .mesh n) (length targets) (length places) (length counts)))
-    (finding (K .mesh n) s targets places counts)
+-- what stands against a request: 1 to 7, and 8 where there is no room for its paths, or where a slice that is lent besides lacks some
+abbrev pub judgeAgainst : (K : Kind) (n s : ℕ) (targets places counts : List ℕ) (lacking : Bool) → Option Refusal
+judgeAgainst K n s targets places counts lacking =
+    requestAgainst K n s targets (pick lacking true (short (K .mesh n) (length targets) (length places) (length counts)))
+
+-- what the judge tells: a refusal, then the first finding
+abbrev pub judgeTold : (K : Kind) (n s : ℕ) (targets places counts : List ℕ) (lacking : Bool) → Ruling
+judgeTold K n s targets places counts lacking =
+    rule (judgeAgainst K n s targets places counts lacking) (finding (K .mesh n) s targets places counts)

@@ -2,9 +2,12 @@
 mod found;
 mod rows;
 
-pub use found::first_finding;
 ghost use mathlib.Core.Path.{_≡_};
-ghost use Rattle.mesh.specs.Kinds.{kindOf};
+ghost use mathlib.Core.Bool.{true, false};
+ghost use Prim.Native.Nat.{_≤_};
+ghost use Rattle.scan.specs.Scan.{pick};
+ghost use Rattle.mesh.specs.Kinds.{kindOf, meshOf, known};
+ghost use Rattle.mesh.specs.Says.{short};
 ghost use Rattle.judge.specs.Verdict as specs;
 use answers::Checked;
 use answers::Refusal;
@@ -118,18 +121,33 @@ impl Verdict {
     }
 }
 
-// Whether the places and counts hold a fan from the source to the targets, a path to each in their order, or the first finding. Path i begins
-// at place i * W, where W is `mesh.places()`, and its hops stand in the counts at i. In the cube of 2 dimensions, from 0 to 3 and 1, the places
-// 0 2 3 F 0 1 F F (F is 2^64 - 1) and the counts 2 1 hold a fan; with 3 for the second 0 the finding is 21 on path 1. Refuses with 1 to 8. What
-// lies beyond the paths is not looked at.
-pub fn judge(mesh: Mesh, source: u64, targets: &[u64], places: &[u64], counts: &[u64]) -> Verdict
-    ensures { λ r. ⌜ specs.verdictTold r ≡ specs.judgeTold (kindOf (mesh .kind)) (mesh .size) source (now (targets .entry)) (now (places .entry)) (now (counts .entry)) ⌝ }
+// Whether room is wanted: so many places and counts are too few for k paths, or something else is lacking.
+fn wanting(mesh: Mesh, k: usize, places: usize, counts: usize, lacking: bool) -> bool
+    requires { ⌜ (known (mesh .kind) (mesh .size) ≡ true) × (k ≤ meshOf (mesh .kind) (mesh .size) .links) ⌝ }
+    ensures { λ r. ⌜ r ≡ pick lacking true (short (meshOf (mesh .kind) (mesh .size)) k places counts) ⌝ }
+{
+    if lacking {
+        return true;
+    }
+    mesh::short(mesh, k, places, counts)
+}
+
+// The judge, for a caller that is lent slices besides, of which one may be lacking: that is refused 8 too.
+pub fn judge_with(
+    mesh: Mesh,
+    source: u64,
+    targets: &[u64],
+    places: &[u64],
+    counts: &[u64],
+    lacking: bool,
+) -> Verdict
+    ensures { λ r. ⌜ specs.verdictTold r ≡ specs.judgeTold (kindOf (mesh .kind)) (mesh .size) source (now (targets .entry)) (now (places .entry)) (now (counts .entry)) lacking ⌝ }
 {
     let checked = mesh::request(mesh, source, targets);
     if let Checked::Refused(why) = checked {
         return Verdict::Refused(why);
     }
-    if mesh::short(mesh, targets.len(), places.len(), counts.len()) {
+    if wanting(mesh, targets.len(), places.len(), counts.len(), lacking) {
         return Verdict::Refused(Refusal::NoRoom);
     }
     let ended = found::first_finding(mesh, source, targets, places, counts);
@@ -137,4 +155,14 @@ pub fn judge(mesh: Mesh, source: u64, targets: &[u64], places: &[u64], counts: &
         Search::Clean => Verdict::Fan,
         Search::Found(f) => Verdict::Found(f),
     }
+}
+
+// Whether the places and counts hold a fan from the source to the targets, a path to each in their order, or the first finding. Path i begins
+// at place i * W, where W is `mesh.places()`, and its hops stand in the counts at i. In the cube of 2 dimensions, from 0 to 3 and 1, the places
+// 0 2 3 F 0 1 F F (F is 2^64 - 1) and the counts 2 1 hold a fan; with 3 for the second 0 the finding is 21 on path 1. Refuses with 1 to 8. What
+// lies beyond the paths is not looked at.
+pub fn judge(mesh: Mesh, source: u64, targets: &[u64], places: &[u64], counts: &[u64]) -> Verdict
+    ensures { λ r. ⌜ specs.verdictTold r ≡ specs.judgeTold (kindOf (mesh .kind)) (mesh .size) source (now (targets .entry)) (now (places .entry)) (now (counts .entry)) false ⌝ }
+{
+    judge_with(mesh, source, targets, places, counts, false)
 }

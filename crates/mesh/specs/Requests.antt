@@ -82,10 +82,13 @@ module _ (K : Kind) (n s : ℕ) (targets : List ℕ) where
 
 -- ---- room for paths
 
+-- where neither of two is wanting, each of them is not
+pub neither-wanting : {r : Bool} (a b : Bool) → r ≡ pick a true b → r ≡ false → (a ≡ false) × (b ≡ false)
+neither-wanting true b e f = absurd (true-false e f)
+neither-wanting false b e f = (refl, sym e ∙ f)
+
 -- slices that are not short hold k paths and their counts
-pub room-enough : {r : Bool} (m : Mesh) (k places counts : ℕ) → r ≡ short m k places counts → r ≡ false → (k * width m ≤ places) × (k ≤ counts)
-room-enough m k places counts e f = go (ltb places (k * width m)) refl (sym e ∙ f)
-  where
-    go : (b : Bool) → ltb places (k * width m) ≡ b → pick b true (ltb counts k) ≡ false → (k * width m ≤ places) × (k ≤ counts)
-    go true p q = absurd (true-false refl q)
-    go false p q = (ltb-false places (k * width m) p, ltb-false counts k q)
+pub room-enough : (m : Mesh) (k places counts : ℕ) → short m k places counts ≡ false → (k * width m ≤ places) × (k ≤ counts)
+room-enough m k places counts f =
+    let r = neither-wanting (ltb places (k * width m)) (ltb counts k) refl f in
+    (ltb-false places (k * width m) (r .0), ltb-false counts k (r .1))

@@ -1,17 +1,18 @@
--- `judge::judge` meets its contract: what stands against the request, room last, else the first finding. Assumes nothing.
+-- `judge::judge_with` meets its contract: what stands against the request, room last, else the first finding. Assumes nothing.
 use mathlib.Core.Path.{_≡_, sym, ap, _∙_}
-use mathlib.Core.Bool.{Bool}
+use mathlib.Core.Bool.{Bool, true}
 use mathlib.Core.Option.{Option, none}
 use lib.ListN.{length}
 use Rattle.answers.specs.declared.Refusal.{Refusal}
 use Rattle.paths.specs.Finding.{Finding, finding}
 use Rattle.mesh.specs.Kinds.{kindOf, meshOf}
+use Rattle.scan.specs.Scan.{pick}
 use Rattle.mesh.specs.Says.{short}
-use Rattle.mesh.specs.Requests.{Fine, checked-fine, request-refused, request-short, request-granted, room-enough}
+use Rattle.mesh.specs.Requests.{Fine, checked-fine, request-refused, request-short, request-granted, neither-wanting, room-enough}
 use Rattle.judge.specs.Verdict.{rule, searchOf, judgeTold}
 use borrow.Author.Needs.{needs}
-use Rattle.judge.proofs.judge.Statement.{statement}
-use Rattle.judge.proofs.judge.Tie as tie
+use Rattle.judge.proofs.judge_with.Statement.{statement}
+use Rattle.judge.proofs.judge_with.Tie as tie
 
 -- the function's start, seen from where the request was checked
 abbrev at : tie.After-request → tie.Start
@@ -19,7 +20,9 @@ at c = c .before .before .before .before
 
 -- whether room is wanted, and the first finding
 abbrev wanting : tie.Start → Bool
-wanting s = short (meshOf (s .args .mesh .kind) (s .args .mesh .size)) (length (s .args .targets .now)) (length (s .args .places .now)) (length (s .args .counts .now))
+wanting s =
+    pick (s .args .lacking) true
+    (short (meshOf (s .args .mesh .kind) (s .args .mesh .size)) (length (s .args .targets .now)) (length (s .args .places .now)) (length (s .args .counts .now)))
 
 abbrev first : tie.Start → Finding
 first s = finding (meshOf (s .args .mesh .kind) (s .args .mesh .size)) (s .args .source) (s .args .targets .now) (s .args .places .now) (s .args .counts .now)
@@ -33,14 +36,14 @@ fine c =
 -- with room, nothing stands against the request
 granted : (c : tie.Else1)
     → let s = at (c .before .before .before .before) in
-    rule none (first s) ≡ judgeTold (kindOf (s .args .mesh .kind)) (s .args .mesh .size) (s .args .source) (s .args .targets .now) (s .args .places .now) (s .args .counts .now)
+    rule none (first s) ≡ judgeTold (kindOf (s .args .mesh .kind)) (s .args .mesh .size) (s .args .source) (s .args .targets .now) (s .args .places .now) (s .args .counts .now) (s .args .lacking)
 granted c =
     let e = c .before .before in
     let q = e .before .before in
     let s = at q in
     ap (λ (o : Option Refusal). rule o (first s))
     (request-granted (kindOf (s .args .mesh .kind)) (s .args .mesh .size) (s .args .source) (s .args .targets .now) (q .request .ensures) (e .enum-told .given .1)
-    (c .before .short .ensures) (c .if1 .left))
+    (c .before .wanting .ensures) (c .if1 .left))
 
 request-requires : tie.Need-request-requires
 request-requires c κs = search needs
@@ -58,8 +61,8 @@ returns c =
 enum-told : tie.Need-enum-told
 enum-told c = search needs
 
-short-requires : tie.Need-short-requires
-short-requires c κs = (fine c .known, fine c .sound .few)
+wanting-requires : tie.Need-wanting-requires
+wanting-requires c κs = (fine c .known, fine c .sound .few)
 
 returns-2 : tie.Need-returns-2
 returns-2 c =
@@ -68,13 +71,17 @@ returns-2 c =
     let s = at q in
     ap (λ (o : Option Refusal). rule o (first s))
     (request-short (kindOf (s .args .mesh .kind)) (s .args .mesh .size) (s .args .source) (s .args .targets .now) (q .request .ensures) (e .enum-told .given .1)
-    (c .before .short .ensures) (c .if1 .taken))
+    (c .before .wanting .ensures) (c .if1 .taken))
 
 first-finding-requires : tie.Need-first-finding-requires
 first-finding-requires c κs =
     let e = c .before .before in
     let a = at (e .before .before) .args in
-    let enough = room-enough (meshOf (a .mesh .kind) (a .mesh .size)) (length (a .targets .now)) (length (a .places .now)) (length (a .counts .now)) (c .before .short .ensures) (c .if1 .left) in
+    let m = meshOf (a .mesh .kind) (a .mesh .size) in
+    let k = length (a .targets .now) in
+    let places = length (a .places .now) in
+    let counts = length (a .counts .now) in
+    let enough = room-enough m k places counts (neither-wanting (a .lacking) (short m k places counts) (c .before .wanting .ensures) (c .if1 .left) .1) in
     record { known = fine e .known; room = enough .0; counted = enough .1 }
 
 enum-told-2 : tie.Need-enum-told-2
@@ -93,15 +100,15 @@ returns-4 c =
     let g = c .before .before .before in
     ap (rule none) (sym (ap searchOf (c .before .ended .given .1)) ∙ g .first-finding .ensures) ∙ granted (g .before)
 
-pub judge-spec : {M : Type 1} → statement M
-judge-spec =
+pub judge-with-spec : {M : Type 1} → statement M
+judge-with-spec =
     tie.close
     (tie.spec
     request-requires
     enum-known-checked
     returns
     enum-told
-    short-requires
+    wanting-requires
     returns-2
     first-finding-requires
     enum-told-2
