@@ -3,6 +3,7 @@
 use Prim.Native.Nat.{ℕ, zero, suc, _≤_}
 use mathlib.Core.Path.{_≡_, refl, sym, ap, _∙_}
 use mathlib.Core.Bool.{Bool, true, false, not}
+use mathlib.Core.Logic.{_≢_}
 use mathlib.Core.List.{List}
 use mathlib.Core.Option.{Option, none, some}
 use native.Mathlib.Omega.{arith}
@@ -16,7 +17,9 @@ use Rattle.answers.specs.declared.Refusal.{Refusal}
 use Rattle.paths.specs.Mesh.{Mesh, width}
 use Rattle.paths.specs.Fan.{relay, hops}
 use Rattle.paths.specs.Finding.{Finding, clean, found, report, report-at, unlinkedAt, seenAt, unfilledAt, findingOf, findingFrom, finding}
-use Rattle.judge.specs.Verdict.{Ruling, ruling, numberOf, rule}
+use Rattle.judge.specs.Verdict.{Ruling, ruling, numberOf, rule, named}
+use Rattle.judge.specs.declared.Finding as code
+use Rattle.judge.specs.declared.Finding.the-variants.{TooLong, NotFromSource, NotLinked, NotToTarget, SeenAgain, NotFilled}
 
 abbrev pub Numbered : Finding → Type 0
 Numbered f = (n i p : ℕ) → f ≡ found n i p → 20 ≤ n
@@ -53,7 +56,22 @@ module _ (m : Mesh) (s : ℕ) (targets places counts : List ℕ) where
   unfolding finding
   finding-numbered = from-numbered 0 (length targets)
 
+-- the numbers of refusals and findings are not 0
+pub refused-number : (why : Refusal) → numberOf (rule (some why) clean) ≢ 0
+refused-number why = eqb-false (number why) 0 (number-some why)
+
+pub found-number : (f : code.Finding) → numberOf (rule none (named f)) ≢ 0
+found-number f = eqb-false (numberOf (rule none (named f))) 0 (go f)
+  where
+    go : (f : code.Finding) → eqb (numberOf (rule none (named f))) 0 ≡ false
+    go (TooLong i) = refl
+    go (NotFromSource i) = refl
+    go (NotLinked i p) = refl
+    go (NotToTarget i p) = refl
+    go (SeenAgain i p) = refl
+    go (NotFilled i p) = refl
+
 pub rule-clean : (o : Option Refusal) (f : Finding) → Numbered f → ruling 0 0 0 ≡ rule o f → (o ≡ none) × (f ≡ clean)
 rule-clean none clean h e = (refl, refl)
 rule-clean none (found n i p) h e = absurd (omega (arith, h n i p refl, ap numberOf e))
-rule-clean (some why) f h e = absurd (eqb-false (number why) 0 (number-some why) (sym (ap numberOf e)))
+rule-clean (some why) f h e = absurd (refused-number why (sym (ap numberOf e)))

@@ -63,8 +63,8 @@ module _ (K : Kind) (n s : ℕ) (targets : List ℕ) where
       record { known = not-false (K .known n) (r .0); sound = sound (K .mesh n .relays) (K .mesh n .links) s targets (r .1) }
 
   -- nothing of 1 to 8
-  pub request-passed : {room : Bool} → requestAgainst K n s targets room ≡ none → Fine K n s targets × (room ≡ false)
-  request-passed {room} e = go (requestAgainst K n s targets false) room refl (sym (request-room room) ∙ e)
+  pub request-passed : (room : Bool) → requestAgainst K n s targets room ≡ none → Fine K n s targets × (room ≡ false)
+  request-passed room e = go (requestAgainst K n s targets false) room refl (sym (request-room room) ∙ e)
     where
       go : (o : Option Refusal) (b : Bool) → requestAgainst K n s targets false ≡ o → before o (refuse b NoRoom none) ≡ none → Fine K n s targets × (b ≡ false)
       go none true f g = some-not-none g

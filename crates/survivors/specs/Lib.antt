@@ -3,3 +3,4 @@ pub mod Tally
 pub mod Promise
 pub mod Needs
 pub mod Columns
+pub mod Laws

@@ -47,17 +47,19 @@ settled none clean a b = a
 settled none (found n i p) a b = b
 settled (some why) f a b = b
 
-module _ (K : Kind) (n s : ℕ) (targets places counts stopped ends hops wholes : List ℕ) where
-  abbrev pub lacking : Bool
-  lacking = few (length targets) (length ends) (length hops) (length wholes)
+-- whether a column is too short
+abbrev pub lacking : (targets ends hops wholes : List ℕ) → Bool
+lacking targets ends hops wholes = few (length targets) (length ends) (length hops) (length wholes)
 
+module _ (K : Kind) (n s : ℕ) (targets places counts stopped ends hops wholes : List ℕ) where
   abbrev settle : {A : Type 0} → A → A → A
-  settle a b = settled (judgeAgainst K n s targets places counts lacking) (finding (K .mesh n) s targets places counts) a b
+  settle a b = settled (judgeAgainst K n s targets places counts (lacking targets ends hops wholes)) (finding (K .mesh n) s targets places counts) a b
 
   -- number, path, place, and the count
   abbrev pub survivorsTold : Tallied
   survivorsTold =
-      tallied (judgeTold K n s targets places counts lacking) (settle (count (whole (width (K .mesh n)) places counts stopped) (length targets)) 0)
+      tallied (judgeTold K n s targets places counts (lacking targets ends hops wholes))
+      (settle (count (whole (width (K .mesh n)) places counts stopped) (length targets)) 0)
 
   pub record Survived (r : Tally) (ends₁ hops₁ wholes₁ : List ℕ) : Type 0 where
     pub told : tallyTold r ≡ survivorsTold
