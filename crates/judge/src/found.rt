@@ -50,7 +50,13 @@ fn look(
 }
 
 // The first finding of a path to each target, where the places and counts hold so many paths.
-pub fn first_finding(mesh: Mesh, source: u64, targets: &[u64], places: &[u64], counts: &[u64]) -> Search
+pub fn first_finding(
+    mesh: Mesh,
+    source: u64,
+    targets: &[u64],
+    places: &[u64],
+    counts: &[u64],
+) -> Search
     requires { ⌜ Lent (mesh .kind) (mesh .size) (length (now targets)) (length (now places)) (length (now counts)) ⌝ }
     ensures { λ r. ⌜ searchOf r ≡ finding.finding (meshOf (mesh .kind) (mesh .size)) source (now (targets .entry)) (now (places .entry)) (now (counts .entry)) ⌝ }
 {

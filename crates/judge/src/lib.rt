@@ -3,7 +3,6 @@ mod found;
 mod rows;
 
 pub use rows::relay;
-
 ghost use mathlib.Core.Path.{_≡_};
 ghost use mathlib.Core.Bool.{true, false};
 ghost use Prim.Native.Nat.{_≤_};

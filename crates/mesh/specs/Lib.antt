@@ -3,3 +3,4 @@ pub mod Kinds
 pub mod Says
 pub mod Laws
 pub mod Requests
+pub mod Unique

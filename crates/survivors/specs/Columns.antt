@@ -5,8 +5,9 @@ use mathlib.Core.Bool.{Bool, true, false, not}
 use mathlib.Core.List.{List, [], _∷_, _++_, append-assoc}
 use native.Mathlib.Numerals.{add-one}
 use native.Mathlib.Omega.{arith}
-use lib.ListN.{length, take, drop, set, getD, length-set, length-append}
-use lib.Seq.{take-suc, drop-cons, set-at}
+use native.Mathlib.Decide.{ℕ-discrete}
+use lib.ListN.{length, take, drop, set, getD, length-set, length-append, List·getD-append}
+use lib.Seq.{take-suc, drop-cons, set-at, getD-at}
 use Rattle.scan.specs.Scan.{Spot, found, pick, seek, any, count, among, has}
 use Rattle.paths.specs.Fan.{relay, hops}
 use Rattle.paths.specs.Whole.{stops, broken, whole}
@@ -41,6 +42,22 @@ copied-more from {was} {out} {i} f h l =
 marks-more : (test : ℕ → Bool) (i : ℕ) → marks test (i + 1) ≡ marks test i ++ (pick (test i) 1 0 ∷ [])
 unfolding marks
 marks-more test i = simp add-one
+
+marks-length : (test : ℕ → Bool) (n : ℕ) → length (marks test n) ≡ n
+unfolding marks
+marks-length test zero = refl
+marks-length test (suc n) = simp length-append (omega (arith, marks-length test n))
+
+-- the mark of each path is 1 where the test holds and else 0
+pub marks-at : (test : ℕ → Bool) (n i : ℕ) → i < n → getD (marks test n) i 0 ≡ pick (test i) 1 0
+unfolding marks
+marks-at test zero i h = absurd (omega arith)
+marks-at test (suc n) i h = go (ℕ-discrete i n) (λ l. marks-at test n i l)
+  where
+    go : Dec (i ≡ n) → (i < n → getD (marks test n) i 0 ≡ pick (test i) 1 0) → getD (marks test n ++ (pick (test n) 1 0 ∷ [])) i 0 ≡ pick (test i) 1 0
+    go (yes e) rest =
+        getD-at (marks test n) (pick (test n) 1 0) [] 0 i (marks-length test n ∙ sym e) ∙ ap (λ (j : ℕ). pick (test j) 1 0) (sym e)
+    go (no ne) rest = List·getD-append (marks test n) (pick (test n) 1 0 ∷ []) 0 i (omega (arith, marks-length test n)) ∙ rest (omega arith)
 
 pub marked-start : (test : ℕ → Bool) (was : List ℕ) → Filling (marks test 0) 0 was was
 unfolding marks

@@ -84,7 +84,7 @@ module _ (K : Kind) (n s : ℕ) (targets places counts stopped ends hops wholes 
 
   module _ (e : ruling 0 0 0 ≡ rule against first) where
     -- a fan
-    judged-clean : (against ≡ none) × (first ≡ clean)
+    pub judged-clean : (against ≡ none) × (first ≡ clean)
     judged-clean = rule-clean against first (finding-numbered (K .mesh n) s targets places counts) e
 
     pub judged-known : Fine K n s targets

@@ -4,3 +4,5 @@ pub mod Promise
 pub mod Needs
 pub mod Columns
 pub mod Laws
+pub mod Unique
+pub mod Survive

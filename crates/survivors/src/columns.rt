@@ -32,14 +32,7 @@ fn flag(b: bool) -> u64
 }
 
 // Writes for each of k paths whether it is whole, and counts those that are.
-fn mark(
-    w: usize,
-    places: &[u64],
-    counts: &[u64],
-    stopped: &[u64],
-    k: usize,
-    out: &mut [u64],
-) -> u64
+fn mark(w: usize, places: &[u64], counts: &[u64], stopped: &[u64], k: usize, out: &mut [u64]) -> u64
     requires { ⌜ Marked w (length (now places)) (now counts) k (length (now out)) ⌝ }
     ensures { λ r. ⌜ r ≡ count (specs.whole w (now (places .entry)) (now (counts .entry)) (now (stopped .entry))) k ⌝ }
     ensures { λ r. ⌜ now (out .exit) ≡ ahead k (marks (specs.whole w (now (places .entry)) (now (counts .entry)) (now (stopped .entry))) k) (now (out .entry)) ⌝ }

@@ -94,26 +94,12 @@ pub fn survivors(
 ) -> Tally
     ensures { λ r. ⌜ promise.Survived (kindOf (mesh .kind)) (mesh .size) source (now (targets .entry)) (now (places .entry)) (now (counts .entry)) (now (stopped .entry)) (now (ends .entry)) (now (hops .entry)) (now (wholes .entry)) r (now (ends .exit)) (now (hops .exit)) (now (wholes .exit)) ⌝ }
 {
-    let lacking = few(
-        targets.len(),
-        ends.len(),
-        hops.len(),
-        wholes.len(),
-    );
+    let lacking = few(targets.len(), ends.len(), hops.len(), wholes.len());
     let verdict = judge::judge_with(mesh, source, targets, places, counts, lacking);
     match verdict {
         Verdict::Fan => {
             let w = mesh::places_in(mesh) as usize;
-            Tally::Whole(columns::fill(
-                w,
-                targets,
-                places,
-                counts,
-                stopped,
-                ends,
-                hops,
-                wholes,
-            ))
+            Tally::Whole(columns::fill(w, targets, places, counts, stopped, ends, hops, wholes))
         }
         Verdict::Found(f) => Tally::Found(f),
         Verdict::Refused(why) => Tally::Refused(why),

@@ -37,9 +37,9 @@ returns-2 c =
     let a = i .before .before .before .before .before .args in
     let out = a .out .now in (
       r .route2 .ensures .0
-      ∙ as-two (λ (K : Kind). routeTold K (a .mesh .size) (a .source) (a .target) out) (i .before .before .if1 .left) (i .if2 .taken),
+          ∙ as-two (λ (K : Kind). routeTold K (a .mesh .size) (a .source) (a .target) out) (i .before .before .if1 .left) (i .if2 .taken),
       r .route2 .ensures .1
-      ∙ as-two (λ (K : Kind). routeLeaves K (a .mesh .size) (a .source) (a .target) out) (i .before .before .if1 .left) (i .if2 .taken),
+          ∙ as-two (λ (K : Kind). routeLeaves K (a .mesh .size) (a .source) (a .target) out) (i .before .before .if1 .left) (i .if2 .taken),
     )
 
 returns-3 : tie.Need-returns-3
