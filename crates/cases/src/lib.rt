@@ -1,1 +1,1 @@
-// Document 01's worked cases that are marked with a star: one theorem, `cases` of specs/Cases.antt.
+// The specification's worked cases that are marked with a star: one theorem, `cases` of specs/Cases.antt.
