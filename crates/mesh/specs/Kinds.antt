@@ -1,9 +1,9 @@
 -- The kinds of mesh, each by what is asked of it at every size: 1 is the plain cube, 2 the two-level mesh. Of any other number no
 -- size is known. This is the one place where kinds meet.
 use Prim.Native.Nat.{ℕ}
-use mathlib.Core.Bool.{Bool, false}
+use mathlib.Core.Bool.{Bool, true, false}
 use mathlib.Core.List.{List, []}
-use lib.Dec.{eqb}
+use lib.Dec.{eqb, ltb}
 use Rattle.scan.specs.Scan.{pick}
 use Rattle.paths.specs.Mesh.{Mesh}
 use Rattle.cube.specs.Cube as cube
@@ -19,6 +19,8 @@ pub record Kind : Type 0 where
   pub next : (size u t : ℕ) → ℕ
   pub hops : (size s t : ℕ) → ℕ
   pub route : (size s t : ℕ) → List ℕ
+  -- the sizes whose distances are not answered
+  pub undistanced : ℕ → Bool
 
 abbrev pub cubes : Kind
 cubes = record {
@@ -27,10 +29,18 @@ cubes = record {
   next = λ n. plain.next;
   hops = λ n. plain.hops;
   route = λ n. plain.route;
+  undistanced = λ n. true;
 }
 
 abbrev pub twos : Kind
-twos = record { known = two.known; mesh = two.two; next = walk.next; hops = walk.hops; route = walk.route }
+twos = record {
+  known = two.known;
+  mesh = two.two;
+  next = walk.next;
+  hops = walk.hops;
+  route = walk.route;
+  undistanced = ltb 3;
+}
 
 -- no kind: none of its sizes is known
 abbrev pub others : Kind
@@ -40,6 +50,7 @@ others = record {
   next = λ n u t. 0;
   hops = λ n s t. 0;
   route = λ n s t. [];
+  undistanced = λ n. false;
 }
 
 -- the numbers of the kinds

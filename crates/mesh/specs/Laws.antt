@@ -14,15 +14,17 @@ use lib.Dec.{eqb}
 use borrow.Author.Tests.{eq-eqb, ne-eqb}
 use Rattle.scan.specs.Scan.{pick}
 use Rattle.scan.specs.Laws.{true-false}
-use Rattle.answers.specs.Order.{first, requestFaults}
+use Rattle.answers.specs.Order.{first, pairFaults, requestFaults}
+use Rattle.answers.specs.Told.{told, tell}
 use Rattle.answers.specs.declared.Refusal.the-variants.{UnknownSize}
 use Rattle.paths.specs.Mesh.{width}
 use Rattle.cube.specs.Cube as cube
 use Rattle.cube.specs.Sizes.{known-most}
 use Rattle.two.specs.Two as two
 use Rattle.two.specs.Parts.{known-bounds, longest-few}
+use Rattle.hops.specs.Ways.{distance}
 use Rattle.mesh.specs.Kinds.{Kind, cubes, twos, others, CUBE, TWO, kindOf, known}
-use Rattle.mesh.specs.Says.{requestAgainst}
+use Rattle.mesh.specs.Says.{requestAgainst, distanceTold}
 
 -- ---- a kind by its number
 
@@ -87,3 +89,13 @@ module _ {r : Bool} (K : Kind) (n s : ℕ) (targets : List ℕ) (e : r ≡ K .kn
   pub request-unknown : r ≡ false → some UnknownSize ≡ requestAgainst K n s targets false
   request-unknown f =
       ap (λ (b : Bool). first (requestFaults (not b) (K .mesh n .relays) (K .mesh n .links) s targets false false)) (sym f ∙ e)
+
+-- ---- distance
+
+-- a cube has none: 9, or 1 where there is no such cube
+pub cube-distance : (n s t : ℕ) → pick (cube.known n) (told 9 0 0) (told 1 0 0) ≡ distanceTold cubes n s t
+cube-distance n s t = go (cube.known n)
+  where
+    go : (b : Bool) → pick b (told 9 0 0) (told 1 0 0) ≡ tell (first (pairFaults (not b) true (cube.cube n .relays) s t false)) 0 (distance (cube.cube n) s t)
+    go true = refl
+    go false = refl

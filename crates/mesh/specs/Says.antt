@@ -10,7 +10,8 @@ use Rattle.answers.specs.Order.{first, sizeFaults, pairFaults, requestFaults}
 use Rattle.answers.specs.Told.{Told, tell, leaves}
 use Rattle.answers.specs.declared.Refusal.{Refusal}
 use Rattle.paths.specs.Mesh.{Mesh, width}
-use Rattle.mesh.specs.Kinds.{Kind, kindOf}
+use Rattle.hops.specs.Ways.{distance}
+use Rattle.mesh.specs.Kinds.{Kind}
 use Rattle.mesh.specs.declared.Fact.{Fact}
 use Rattle.mesh.specs.declared.Fact.the-variants.{Relays, Links, Longest, Places}
 
@@ -49,6 +50,10 @@ linkedTold k n s t = tell (pairAgainst k n s t false) false (k .mesh n .linked s
 
 abbrev pub nextTold : (k : Kind) (n s t : ℕ) → Told ℕ
 nextTold k n s t = tell (pairAgainst k n s t false) 0 (k .next n s t)
+
+-- 9 after 1; the fewest links between two relays
+abbrev pub distanceTold : (k : Kind) (n s t : ℕ) → Told ℕ
+distanceTold k n s t = tell (first (pairFaults (not (k .known n)) (k .undistanced n) (k .mesh n .relays) s t false)) 0 (distance (k .mesh n) s t)
 
 -- what stands against a route into so many places: they are to be one more than its hops
 abbrev pub routeAgainst : (k : Kind) (n s t places : ℕ) → Option Refusal

@@ -1,7 +1,8 @@
-// A mesh by its kind and size: the facts of a size, links, next hop and plain route over every kind. Kinds meet here alone.
+// A mesh by its kind and size: the facts of a size, links, next hop, distance and plain route over every kind. Kinds meet here alone.
 mod pairs;
 mod requested;
 
+pub use pairs::distance;
 pub use pairs::joined;
 pub use pairs::linked;
 pub use pairs::next_hop;

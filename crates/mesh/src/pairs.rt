@@ -1,9 +1,11 @@
-// A source and a target: links, next hop, plain route.
+// A source and a target: links, next hop, distance, plain route.
 ghost use mathlib.Core.Path.{_≡_};
 ghost use mathlib.Core.Bool.{true};
-ghost use Rattle.answers.specs.Told.{answerTold, yesNoTold};
+ghost use Rattle.scan.specs.Scan.{pick};
+ghost use Rattle.answers.specs.Told.{told, answerTold, yesNoTold};
+ghost use Rattle.cube.specs.Cube as cubes;
 ghost use Rattle.mesh.specs.Kinds as specs;
-ghost use Rattle.mesh.specs.Says.{linkedTold, nextTold, routeTold, routeLeaves};
+ghost use Rattle.mesh.specs.Says.{linkedTold, nextTold, distanceTold, routeTold, routeLeaves};
 use crate::Mesh;
 use answers::Answer;
 use answers::Refusal;
@@ -34,6 +36,30 @@ pub fn next_hop(mesh: Mesh, source: u64, target: u64) -> Answer
     }
     if mesh.kind == Mesh::TWO {
         return two::next_hop(Order(mesh.size), source, target);
+    }
+    Answer::Refused(Refusal::UnknownSize)
+}
+
+// Why a cube has no distances.
+fn no_distance(size: Size) -> Answer
+    ensures { λ r. ⌜ answerTold r ≡ pick (cubes.known (size .0)) (told 9 0 0) (told 1 0 0) ⌝ }
+{
+    if size.known() {
+        Answer::Refused(Refusal::NoDistance)
+    } else {
+        Answer::Refused(Refusal::UnknownSize)
+    }
+}
+
+// The fewest links between two relays, in meshes of kind 2 and sizes 1 to 3: in that of size 1 from 0 to 6 they are 4. Refuses with 1, 9, 2, 5.
+pub fn distance(mesh: Mesh, source: u64, target: u64) -> Answer
+    ensures { λ r. ⌜ answerTold r ≡ distanceTold (specs.kindOf (mesh .kind)) (mesh .size) source target ⌝ }
+{
+    if mesh.kind == Mesh::CUBE {
+        return no_distance(Size(mesh.size));
+    }
+    if mesh.kind == Mesh::TWO {
+        return hops::distance(Order(mesh.size), source, target);
     }
     Answer::Refused(Refusal::UnknownSize)
 }
