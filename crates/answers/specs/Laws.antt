@@ -5,7 +5,7 @@ use mathlib.Core.Path.{_≡_, refl, sym, ap, _∙_}
 use mathlib.Core.Bool.{Bool, true, false}
 use mathlib.Core.Option.{Option, none, some}
 use native.Mathlib.Omega.{arith}
-use lib.Dec.{eqb}
+use lib.Dec.{eqb, leb}
 use Rattle.scan.specs.Scan.{pick}
 use Rattle.answers.specs.Told.{number, place, Told, told, tell, answerTold, yesNoTold, against}
 use Rattle.answers.specs.declared.Refusal.{Refusal}
@@ -18,7 +18,7 @@ use Rattle.answers.specs.declared.YesNo.{YesNo}
 use Rattle.answers.specs.declared.YesNo.the-variants as yesno
 
 -- the refusal of a number and a place
-refusal : ℕ → ℕ → Refusal
+pub refusal : ℕ → ℕ → Refusal
 refusal n p =
     pick (eqb n 10) Unreadable
     (pick (eqb n 1) UnknownSize
@@ -31,7 +31,7 @@ refusal n p =
     (pick (eqb n 7) (TargetAgain p)
     (pick (eqb n 11) BadDoors NoRoom)))))))))
 
-refusal-back : (why : Refusal) → refusal (number why) (place why) ≡ why
+pub refusal-back : (why : Refusal) → refusal (number why) (place why) ≡ why
 unfolding refusal
 refusal-back Unreadable = refl
 refusal-back UnknownSize = refl
@@ -46,7 +46,7 @@ refusal-back BadDoors = refl
 refusal-back NoRoom = refl
 
 -- no refusal has the number 0
-number-some : (why : Refusal) → eqb (number why) 0 ≡ false
+pub number-some : (why : Refusal) → eqb (number why) 0 ≡ false
 number-some Unreadable = refl
 number-some UnknownSize = refl
 number-some NoDistance = refl
@@ -58,6 +58,20 @@ number-some (TargetIsSource p) = refl
 number-some (TargetAgain p) = refl
 number-some BadDoors = refl
 number-some NoRoom = refl
+
+-- all are below the numbers of the findings
+pub number-below : (why : Refusal) → leb 20 (number why) ≡ false
+number-below Unreadable = refl
+number-below UnknownSize = refl
+number-below NoDistance = refl
+number-below SourceOut = refl
+number-below NoTarget = refl
+number-below TooMany = refl
+number-below (TargetOut p) = refl
+number-below (TargetIsSource p) = refl
+number-below (TargetAgain p) = refl
+number-below BadDoors = refl
+number-below NoRoom = refl
 
 answerOf : Told ℕ → Answer
 answerOf (told n p v) = pick (eqb n 0) (answer.Value v) (answer.Refused (refusal n p))

@@ -10,12 +10,6 @@ use Rattle.scan.specs.Scan.{Spot, nowhere, at, pick}
 use Rattle.answers.specs.Order.{Faults, first, refuse, refuse-at, firstAt, isOut, isSame, isAgain, requestFaults}
 use Rattle.answers.specs.declared.Refusal.{Refusal}
 use Rattle.answers.specs.declared.Refusal.the-variants.{UnknownSize, SourceOut, TargetOut, TargetIsSource, TargetAgain, BadDoors, NoRoom}
-use Rattle.requests.specs.declared.Spot as code
-use Rattle.requests.specs.declared.Spot.the-variants as spot
-
-abbrev pub spotOf : code.Spot → Spot
-spotOf (spot.At j) = at j
-spotOf spot.Nowhere = nowhere
 
 -- 5, then 6, then 7
 abbrev pub targetFaults : (relays source : ℕ) (targets : List ℕ) → Option Refusal

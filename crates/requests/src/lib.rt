@@ -3,15 +3,11 @@ ghost use mathlib.Core.Path.{_≡_};
 ghost use mathlib.Core.Bool.{false};
 ghost use Rattle.answers.specs.Told.{against};
 ghost use Rattle.answers.specs.Order.{first, requestFaults, firstAt, isOut, isSame, isAgain};
-ghost use Rattle.requests.specs.Request.{spotOf, targetFaults};
+ghost use Rattle.scan.specs.Scan.{spotOf};
+ghost use Rattle.requests.specs.Request.{targetFaults};
 use answers::Checked;
 use answers::Refusal;
-
-// A place in a list, or none.
-enum Spot {
-    At(usize),
-    Nowhere,
-}
+use scan::Spot;
 
 // The first target that is no relay.
 fn out_at(relays: u64, targets: &[u64]) -> Spot

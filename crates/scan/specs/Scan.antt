@@ -5,11 +5,18 @@ use mathlib.Core.Bool.{Bool, true, false}
 use mathlib.Core.List.{List, [], _∷_}
 use lib.Dec.{eqb}
 use lib.ListN.{length, getD}
+use Rattle.scan.specs.declared.Spot as code
+use Rattle.scan.specs.declared.Spot.the-variants as spot
 
 -- where a test first holds
 pub data Spot : Type 0 where
   nowhere : Spot
   at : ℕ → Spot
+
+-- what the code's answer says
+abbrev pub spotOf : code.Spot → Spot
+spotOf (spot.At j) = at j
+spotOf spot.Nowhere = nowhere
 
 abbrev pub pick : {A : Type 0} → Bool → A → A → A
 pick true a b = a

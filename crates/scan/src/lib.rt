@@ -4,6 +4,12 @@ ghost use Prim.Native.Nat.{_+_, _≤_};
 ghost use lib.ListN.{length};
 ghost use Rattle.scan.specs.Scan as specs;
 
+// Where a test first holds, or that it holds nowhere.
+pub enum Spot {
+    At(usize),
+    Nowhere,
+}
+
 // Whether x stands in the list at one of the n places from i on. `among(&[4, 7, 9], 1, 2, 9)` is true.
 pub fn among(list: &[u64], i: usize, n: usize, x: u64) -> bool
     requires { ⌜ i + n ≤ length (now list) ⌝ }

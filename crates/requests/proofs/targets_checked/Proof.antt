@@ -3,7 +3,8 @@ use mathlib.Core.Path.{_∙_, sym, ap}
 use mathlib.Core.Option.{none}
 use borrow.Author.Needs.{needs}
 use Rattle.answers.specs.declared.Refusal.the-variants.{TargetOut, TargetIsSource, TargetAgain}
-use Rattle.requests.specs.Request.{spotOf, told-at, told-after}
+use Rattle.scan.specs.Scan.{spotOf}
+use Rattle.requests.specs.Request.{told-at, told-after}
 use Rattle.requests.proofs.targets_checked.Statement.{statement}
 use Rattle.requests.proofs.targets_checked.Tie as tie
 

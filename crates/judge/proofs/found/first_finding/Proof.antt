@@ -1,0 +1,95 @@
+-- `judge::found::first_finding` meets its contract: the invariant is that nothing was found on the paths passed. Assumes nothing.
+use Prim.Native.Nat.{_-_}
+use native.Mathlib.Omega.{arith}
+use lib.ListN.{length}
+use Rattle.mesh.specs.Kinds.{meshOf}
+use Rattle.judge.specs.Search.{Searched, search-starts, search-room, search-goes-on, search-finds, search-ends}
+use borrow.Author.Needs.{needs}
+use Rattle.judge.proofs.found.first_finding.Statement.{statement}
+use Rattle.judge.proofs.found.first_finding.Tie as tie
+
+abbrev Inv-loop : tie.InvT-loop
+Inv-loop mesh source targets places counts w i₀ i = Searched (meshOf (mesh .kind) (mesh .size)) source targets places counts w i
+
+abbrev μ-loop : tie.MeasureT-loop
+μ-loop mesh source targets places counts w i₀ i = length targets - i
+
+places-in-requires : tie.Need-places-in-requires Inv-loop μ-loop
+places-in-requires c κs = c .before .before .before .pre .known
+
+loop-holds : tie.Need-loop-holds Inv-loop μ-loop
+loop-holds c =
+    let s = c .before .before .before .before in
+    let a = s .args in
+    search-starts (meshOf (a .mesh .kind) (a .mesh .size)) (a .source) (a .targets .now) (a .places .now) (a .counts .now) (c .places-in .ensures) (s .pre .room) (s .pre .counted)
+
+mul-look : tie.Need-mul-look Inv-loop μ-loop
+mul-look c = search needs
+
+shared-slice-read-look : tie.Need-shared-slice-read-look Inv-loop μ-loop
+shared-slice-read-look c = search needs
+
+look-requires : tie.Need-look-requires Inv-loop μ-loop
+look-requires c κs =
+    let l = c .before .before in
+    let s = l .before .before .before .before .before in
+    let v = l .loop .inv in
+    record {
+      mesh = record { known = s .pre .known; wide = v .wide };
+      held = v .held;
+      counted = omega (arith, v .counted);
+      room = search-room (meshOf (s .args .mesh .kind) (s .args .mesh .size)) (s .args .source) (s .args .targets .now) (s .args .places .now) (s .args .counts .now) v (c .before .loop-test .taken);
+    }
+
+enum-known-looked : tie.Need-enum-known-looked Inv-loop μ-loop
+enum-known-looked c = search needs
+
+returns : tie.Need-returns Inv-loop μ-loop
+returns c =
+    let k = c .before .before .before in
+    let l = k .before .before .before in
+    let a = l .before .before .before .before .before .args in
+    search-finds (meshOf (a .mesh .kind) (a .mesh .size)) (a .source) (a .targets .now) (a .places .now) (a .counts .now) (l .loop .inv) (k .before .before .loop-test .taken)
+    (c .before .looked .given .1) (k .look .ensures)
+
+enum-told : tie.Need-enum-told Inv-loop μ-loop
+enum-told c = search needs
+
+add-i : tie.Need-add-i Inv-loop μ-loop
+add-i c = search needs
+
+loop-less : tie.Need-loop-less Inv-loop μ-loop
+loop-less c = search needs
+
+loop-again : tie.Need-loop-again Inv-loop μ-loop
+loop-again c =
+    let k = c .before .before in
+    let l = k .before .before .before in
+    let a = l .before .before .before .before .before .args in
+    search-goes-on (meshOf (a .mesh .kind) (a .mesh .size)) (a .source) (a .targets .now) (a .places .now) (a .counts .now) (l .loop .inv) (k .before .before .loop-test .taken)
+    (c .enum-told .given .1) (k .look .ensures)
+
+returns-2 : tie.Need-returns-2 Inv-loop μ-loop
+returns-2 c =
+    let l = c .before in
+    let a = l .before .before .before .before .before .args in
+    search-ends (meshOf (a .mesh .kind) (a .mesh .size)) (a .source) (a .targets .now) (a .places .now) (a .counts .now) (l .loop .inv) (c .loop-test .left)
+
+pub first-finding-spec : {M : Type 1} → statement M
+first-finding-spec =
+    tie.close
+    (tie.spec
+    Inv-loop
+    μ-loop
+    places-in-requires
+    loop-holds
+    mul-look
+    shared-slice-read-look
+    look-requires
+    enum-known-looked
+    returns
+    enum-told
+    add-i
+    loop-less
+    loop-again
+    returns-2)

@@ -1,0 +1,26 @@
+-- `mesh::fact_in` meets its contract: a mesh that there is is a cube or a two-level mesh. Assumes nothing.
+use mathlib.Core.Path.{_∙_}
+use Rattle.mesh.specs.Kinds.{Kind}
+use Rattle.mesh.specs.Laws.{as-cube, not-cube, known-cube, known-two}
+use Rattle.mesh.specs.Says.{factOf}
+use Rattle.mesh.proofs.fact_in.Statement.{statement}
+use Rattle.mesh.proofs.fact_in.Tie as tie
+
+cube-fact-requires : tie.Need-cube-fact-requires
+cube-fact-requires c κs = known-cube (c .before .before .args .mesh .kind) (c .before .before .args .mesh .size) (c .before .before .pre) (c .if1 .taken)
+
+returns : tie.Need-returns
+returns c =
+    let a = c .before .before .before .args in
+    c .cube-fact .ensures ∙ as-cube (λ (K : Kind). factOf (a .which) (K .mesh (a .mesh .size))) (c .before .if1 .taken)
+
+two-fact-requires : tie.Need-two-fact-requires
+two-fact-requires c κs = known-two (c .before .before .args .mesh .kind) (c .before .before .args .mesh .size) (c .before .before .pre) (c .if1 .left)
+
+returns-2 : tie.Need-returns-2
+returns-2 c =
+    let s = c .before .before .before in
+    c .two-fact .ensures ∙ not-cube (s .args .mesh .kind) (s .args .mesh .size) (s .pre) (λ (K : Kind). factOf (s .args .which) (K .mesh (s .args .mesh .size))) (c .before .if1 .left)
+
+pub fact-in-spec : {M : Type 1} → statement M
+fact-in-spec = tie.close (tie.spec cube-fact-requires returns two-fact-requires returns-2)

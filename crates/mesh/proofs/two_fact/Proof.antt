@@ -1,0 +1,73 @@
+-- `mesh::two_fact` meets its contract: a known order is small. Assumes nothing.
+use Prim.Native.Nat.{ℕ, _+_, _≤_}
+use mathlib.Core.Path.{sym, ap, _∙_}
+use native.Mathlib.Omega.{arith}
+use Rattle.two.specs.Two.{two, longest}
+use Rattle.two.specs.Parts.{known-bounds, longest-few}
+use Rattle.mesh.specs.Says.{factOf}
+use Rattle.mesh.specs.declared.Fact.{Fact}
+use borrow.Author.Needs.{needs}
+use Rattle.mesh.proofs.two_fact.Statement.{statement}
+use Rattle.mesh.proofs.two_fact.Tie as tie
+
+few : (c : tie.Start) → c .args .m ≤ 5
+few c = known-bounds (c .args .m) (c .pre) .1
+
+enum-told : tie.Need-enum-told
+enum-told c = search needs
+
+relays-in-requires : tie.Need-relays-in-requires
+relays-in-requires c κs = few (c .before .before)
+
+enum-told-2 : tie.Need-enum-told-2
+enum-told-2 c = search needs
+
+add-result : tie.Need-add-result
+add-result c = omega (arith, few (c .before .before))
+
+enum-told-3 : tie.Need-enum-told-3
+enum-told-3 c = search needs
+
+longest-in-requires : tie.Need-longest-in-requires
+longest-in-requires c κs = few (c .before .before)
+
+enum-told-4 : tie.Need-enum-told-4
+enum-told-4 c = search needs
+
+longest-in-requires-2 : tie.Need-longest-in-requires-2
+longest-in-requires-2 c κs = few (c .before .before)
+
+add-result-2 : tie.Need-add-result-2
+add-result-2 c = let s = c .before .before .before in omega (arith, c .longest-in2 .ensures, longest-few (s .args .m) (few s))
+
+returns : tie.Need-returns
+returns c = c .relays-in .ensures ∙ ap (λ (w : Fact). factOf w (two (c .before .before .before .args .m))) (sym (c .before .enum-told .given .1))
+
+returns-2 : tie.Need-returns-2
+returns-2 c = ap (λ (w : Fact). factOf w (two (c .before .before .args .m))) (sym (c .enum-told2 .given .1))
+
+returns-3 : tie.Need-returns-3
+returns-3 c = c .longest-in .ensures ∙ ap (λ (w : Fact). factOf w (two (c .before .before .before .args .m))) (sym (c .before .enum-told3 .given .1))
+
+returns-4 : tie.Need-returns-4
+returns-4 c =
+    ap (λ (x : ℕ). x + 1) (c .longest-in2 .ensures)
+    ∙ ap (λ (w : Fact). factOf w (two (c .before .before .before .args .m))) (sym (c .before .enum-told4 .given .1))
+
+pub two-fact-spec : {M : Type 1} → statement M
+two-fact-spec =
+    tie.close
+    (tie.spec
+    enum-told
+    relays-in-requires
+    enum-told-2
+    add-result
+    enum-told-3
+    longest-in-requires
+    enum-told-4
+    longest-in-requires-2
+    add-result-2
+    returns
+    returns-2
+    returns-3
+    returns-4)

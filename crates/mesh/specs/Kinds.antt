@@ -1,0 +1,71 @@
+-- The kinds of mesh, each by what is asked of it at every size: 1 is the plain cube, 2 the two-level mesh. Of any other number no
+-- size is known. This is the one place where kinds meet.
+use Prim.Native.Nat.{ℕ}
+use mathlib.Core.Bool.{Bool, true, false}
+use mathlib.Core.List.{List, []}
+use lib.Dec.{eqb, ltb}
+use Rattle.scan.specs.Scan.{pick}
+use Rattle.paths.specs.Mesh.{Mesh}
+use Rattle.cube.specs.Cube as cube
+use Rattle.cube.specs.Route as plain
+use Rattle.two.specs.Two as two
+use Rattle.two.specs.Next as walk
+
+pub record Kind : Type 0 where
+  -- which sizes there are, and the mesh of a size
+  pub known : ℕ → Bool
+  pub mesh : ℕ → Mesh
+  -- the relay after u on the way to t; the plain route from s to t, with its hops
+  pub next : (size u t : ℕ) → ℕ
+  pub hops : (size s t : ℕ) → ℕ
+  pub route : (size s t : ℕ) → List ℕ
+  -- the sizes whose distances are not answered
+  pub undistanced : ℕ → Bool
+
+abbrev pub cubes : Kind
+cubes = record {
+  known = cube.known;
+  mesh = cube.cube;
+  next = λ n. plain.next;
+  hops = λ n. plain.hops;
+  route = λ n. plain.route;
+  undistanced = λ n. true;
+}
+
+abbrev pub twos : Kind
+twos = record {
+  known = two.known;
+  mesh = two.two;
+  next = walk.next;
+  hops = walk.hops;
+  route = walk.route;
+  undistanced = ltb 3;
+}
+
+-- no kind: none of its sizes is known
+abbrev pub others : Kind
+others = record {
+  known = λ n. false;
+  mesh = λ n. record { relays = 0; links = 0; longest = 0; linked = λ u v. false };
+  next = λ n u t. 0;
+  hops = λ n s t. 0;
+  route = λ n s t. [];
+  undistanced = λ n. false;
+}
+
+-- the numbers of the kinds
+abbrev pub CUBE : ℕ
+CUBE = 1
+
+abbrev pub TWO : ℕ
+TWO = 2
+
+unfoldable pub kindOf : ℕ → Kind
+kindOf k = pick (eqb k CUBE) cubes (pick (eqb k TWO) twos others)
+
+-- whether there is a mesh of a kind and size, and the mesh
+abbrev pub known : (kind size : ℕ) → Bool
+known kind size = kindOf kind .known size
+
+abbrev pub meshOf : (kind size : ℕ) → Mesh
+meshOf kind size = kindOf kind .mesh size

@@ -1,0 +1,101 @@
+-- Laws of the kinds. Assumes nothing.
+--
+-- What holds of the cubes holds of kind 1, and so for each kind (`as-cube`, `as-two`, `as-other`); a mesh that there is is of one of them
+-- (`known-two`), and small enough for a machine's numbers (`known-small`).
+use Prim.Native.Nat.{ℕ, _≤_}
+use mathlib.Core.Path.{_≡_, refl, sym, ap, ap₂, _∙_, subst}
+use mathlib.Core.Bool.{Bool, true, false, not}
+use mathlib.Core.List.{List}
+use mathlib.Core.Option.{some}
+use mathlib.Core.Logic.{_≢_}
+use native.Mathlib.Omega.{arith}
+use native.Mathlib.Decide.{ℕ-discrete}
+use lib.Dec.{eqb}
+use borrow.Author.Tests.{eq-eqb, ne-eqb}
+use Rattle.scan.specs.Scan.{pick}
+use Rattle.scan.specs.Laws.{true-false}
+use Rattle.answers.specs.Order.{first, pairFaults, requestFaults}
+use Rattle.answers.specs.Told.{told, tell}
+use Rattle.answers.specs.declared.Refusal.the-variants.{UnknownSize}
+use Rattle.paths.specs.Mesh.{width}
+use Rattle.cube.specs.Cube as cube
+use Rattle.cube.specs.Sizes.{known-most}
+use Rattle.two.specs.Two as two
+use Rattle.two.specs.Parts.{known-bounds, longest-few}
+use Rattle.hops.specs.Ways.{distance}
+use Rattle.mesh.specs.Kinds.{Kind, cubes, twos, others, CUBE, TWO, kindOf, known}
+use Rattle.mesh.specs.Says.{requestAgainst, distanceTold}
+
+-- ---- a kind by its number
+
+module _ {A : Type 0} (f : Kind → A) where
+  pub as-cube : {k : ℕ} → k ≡ CUBE → f cubes ≡ f (kindOf k)
+  unfolding kindOf
+  as-cube {k} e = ap (λ (b : Bool). f (pick b cubes (pick (eqb k TWO) twos others))) (sym (eq-eqb k CUBE e))
+
+  no-cube : {k : ℕ} → k ≢ CUBE → f (pick (eqb k TWO) twos others) ≡ f (kindOf k)
+  unfolding kindOf
+  no-cube {k} ne = ap (λ (b : Bool). f (pick b cubes (pick (eqb k TWO) twos others))) (sym (ne-eqb k CUBE ne))
+
+  pub as-two : {k : ℕ} → k ≢ CUBE → k ≡ TWO → f twos ≡ f (kindOf k)
+  as-two {k} ne e = ap (λ (b : Bool). f (pick b twos others)) (sym (eq-eqb k TWO e)) ∙ no-cube ne
+
+  pub as-other : {k : ℕ} → k ≢ CUBE → k ≢ TWO → f others ≡ f (kindOf k)
+  as-other {k} ne nt = ap (λ (b : Bool). f (pick b twos others)) (sym (ne-eqb k TWO nt)) ∙ no-cube ne
+
+-- ---- a mesh that there is
+
+-- 32 paths of 207 places at most
+abbrev pub Small : (n : ℕ) → Kind → Type 0
+Small n K = (K .mesh n .links ≤ 32) × (width (K .mesh n) ≤ 207)
+
+module _ (k n : ℕ) (h : known k n ≡ true) where
+  pub known-cube : k ≡ CUBE → cube.known n ≡ true
+  known-cube e = as-cube (λ (K : Kind). K .known n) e ∙ h
+
+  -- what is no cube is a two-level mesh
+  two-left : k ≢ CUBE → k ≡ TWO
+  two-left ne = go (ℕ-discrete k TWO)
+    where
+      go : Dec (k ≡ TWO) → k ≡ TWO
+      go (yes e) = e
+      go (no nt) = absurd (true-false h (sym (as-other (λ (K : Kind). K .known n) ne nt)))
+
+  pub not-cube : {A : Type 0} (f : Kind → A) → k ≢ CUBE → f twos ≡ f (kindOf k)
+  not-cube f ne = as-two f ne (two-left ne)
+
+  pub known-two : k ≢ CUBE → two.known n ≡ true
+  known-two ne = not-cube (λ (K : Kind). K .known n) ne ∙ h
+
+  pub known-small : Small n (kindOf k)
+  known-small = go (ℕ-discrete k CUBE)
+    where
+      go : Dec (k ≡ CUBE) → Small n (kindOf k)
+      go (yes e) = let most = known-most n refl (known-cube e) in subst (Small n) (as-cube (λ K. K) e) (most, omega arith)
+      go (no ne) =
+          let most = known-bounds n (known-two ne) .1 in
+          subst (Small n) (not-cube (λ K. K) ne) (omega arith, omega (arith, longest-few n most))
+
+-- ---- a request
+
+-- the flag r is what code has of `known`
+module _ {r : Bool} (K : Kind) (n s : ℕ) (targets : List ℕ) (e : r ≡ K .known n) where
+  pub request-known : {relays links : ℕ} → r ≡ true → relays ≡ K .mesh n .relays → links ≡ K .mesh n .links
+      → first (requestFaults false relays links s targets false false) ≡ requestAgainst K n s targets false
+  request-known t p q =
+      ap₂ (λ (x y : ℕ). first (requestFaults false x y s targets false false)) p q
+      ∙ ap (λ (b : Bool). first (requestFaults (not b) (K .mesh n .relays) (K .mesh n .links) s targets false false)) (sym t ∙ e)
+
+  pub request-unknown : r ≡ false → some UnknownSize ≡ requestAgainst K n s targets false
+  request-unknown f =
+      ap (λ (b : Bool). first (requestFaults (not b) (K .mesh n .relays) (K .mesh n .links) s targets false false)) (sym f ∙ e)
+
+-- ---- distance
+
+-- a cube has none: 9, or 1 where there is no such cube
+pub cube-distance : (n s t : ℕ) → pick (cube.known n) (told 9 0 0) (told 1 0 0) ≡ distanceTold cubes n s t
+cube-distance n s t = go (cube.known n)
+  where
+    go : (b : Bool) → pick b (told 9 0 0) (told 1 0 0) ≡ tell (first (pairFaults (not b) true (cube.cube n .relays) s t false)) 0 (distance (cube.cube n) s t)
+    go true = refl
+    go false = refl

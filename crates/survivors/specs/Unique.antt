@@ -1,0 +1,39 @@
+-- The promise of survivors leaves one tally and one content for each column (`survived-unique`): tallies that tell the same are the same.
+-- Assumes nothing.
+use Prim.Native.Nat.{ℕ}
+use mathlib.Core.Path.{_≡_, refl, sym, ap, ap₂, _∙_}
+use mathlib.Core.List.{List}
+use Rattle.mesh.specs.Kinds.{Kind}
+use Rattle.judge.specs.Unique.{verdict-unique}
+use Rattle.judge.specs.declared.Verdict.{Verdict}
+use Rattle.judge.specs.declared.Verdict.the-variants as verdict
+use Rattle.survivors.specs.Tally.{rulingOf, wholeOf, verdictOf, countOf, tallyTold}
+use Rattle.survivors.specs.Promise.{Survived}
+use Rattle.survivors.specs.declared.Tally.{Tally}
+use Rattle.survivors.specs.declared.Tally.the-variants as tally
+
+tallyOf : Verdict → ℕ → Tally
+tallyOf verdict.Fan c = tally.Whole c
+tallyOf (verdict.Found f) c = tally.Found f
+tallyOf (verdict.Refused why) c = tally.Refused why
+
+tally-back : (t : Tally) → tallyOf (verdictOf t) (countOf t) ≡ t
+unfolding tallyOf
+tally-back (tally.Whole c) = refl
+tally-back (tally.Found f) = refl
+tally-back (tally.Refused why) = refl
+
+pub tally-unique : (a b : Tally) → tallyTold a ≡ tallyTold b → a ≡ b
+tally-unique a b e =
+    sym (tally-back a) ∙ ap₂ tallyOf (verdict-unique (verdictOf a) (verdictOf b) (ap rulingOf e)) (ap wholeOf e) ∙ tally-back b
+
+pub survived-unique : (K : Kind) (n s : ℕ) (targets places counts stopped ends hops wholes : List ℕ) (a b : Tally) (ends₁ hops₁ wholes₁ ends₂ hops₂ wholes₂ : List ℕ)
+    → Survived K n s targets places counts stopped ends hops wholes a ends₁ hops₁ wholes₁
+    → Survived K n s targets places counts stopped ends hops wholes b ends₂ hops₂ wholes₂
+    → (a ≡ b) × (ends₁ ≡ ends₂) × (hops₁ ≡ hops₂) × (wholes₁ ≡ wholes₂)
+survived-unique K n s targets places counts stopped ends hops wholes a b ends₁ hops₁ wholes₁ ends₂ hops₂ wholes₂ p q = (
+  tally-unique a b (p .told ∙ sym (q .told)),
+  p .ended ∙ sym (q .ended),
+  p .hopped ∙ sym (q .hopped),
+  p .marked ∙ sym (q .marked),
+)
