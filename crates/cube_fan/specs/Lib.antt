@@ -2,4 +2,4 @@
 pub mod Promise
 pub mod Laws
 pub mod Results
-pub mod CaseG
+pub mod Cases
