@@ -25,7 +25,7 @@ constexpr uint64_t kFiller = ~uint64_t{0}, kUntouched = 77;
 int bits(uint64_t x) { return __builtin_popcountll(x); }
 
 [[noreturn]] void fail(const char *what, uint64_t n, uint64_t source, uint64_t doors, const Words &targets) {
-  std::printf("cube_plan: FAILED: %s: n %llu, source %llu, doors %llx, targets", what, (unsigned long long)n, (unsigned long long)source,
+  std::printf("cube_fan: FAILED: %s: n %llu, source %llu, doors %llx, targets", what, (unsigned long long)n, (unsigned long long)source,
               (unsigned long long)doors);
   for (uint64_t t : targets) std::printf(" %llu", (unsigned long long)t);
   std::printf("\n");
@@ -174,5 +174,5 @@ int main() {
   const Words targets{3, 1};
   gustparsley_cube_plan(2, 0, targets.data(), 2, places.data(), 8, counts.data(), 2);
   if (places != Words{0, 2, 3, kFiller, 0, 1, kFiller, kFiller} || counts != Words{2, 1}) fail("case G", 2, 0, 3, targets);
-  std::printf("cube_plan: %ld fans judged\n", fans);
+  std::printf("cube_fan: %ld fans judged\n", fans);
 }
