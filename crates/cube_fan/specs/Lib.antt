@@ -2,4 +2,5 @@
 pub mod Promise
 pub mod Laws
 pub mod Results
+pub mod Callers
 pub mod Cases
