@@ -56,9 +56,25 @@ fn put_first(word: &[u8], list: &[u64; 40], k: usize)
     }
 }
 
+// What came back, and what the slices hold: two places more than were lent.
+fn put_outcome(
+    checked: Checked,
+    places: &[u64; 40],
+    room: usize,
+    counts: &[u64; 40],
+    counted: usize,
+)
+    requires { ⌜ (room ≤ 38) × (counted ≤ 38) ⌝ }
+{
+    put_checked(checked);
+    put_first(b" places", places, room + 2);
+    put_first(b" counts", counts, counted + 2);
+    io::write_all(STDOUT_FILENO, b"\n");
+}
+
 // A fan, into so many places and counts.
 fn plan(n: u64, source: u64, targets: &[u64], room: usize, counted: usize)
-    requires { ⌜ (room ≤ 38) × (counted ≤ 6) ⌝ }
+    requires { ⌜ (room ≤ 38) × (counted ≤ 38) ⌝ }
 {
     let mut places = [77u64; 40];
     let mut counts = [77u64; 40];
@@ -70,15 +86,12 @@ fn plan(n: u64, source: u64, targets: &[u64], room: usize, counted: usize)
         &mut counts[..counted],
     );
     put_request(b"plan", n, source, 0, targets);
-    put_checked(checked);
-    put_first(b" places", &places, room + 2);
-    put_first(b" counts", &counts, counted + 2);
-    io::write_all(STDOUT_FILENO, b"\n");
+    put_outcome(checked, &places, room, &counts, counted);
 }
 
 // A fan through doors.
 fn through(n: u64, source: u64, doors: u64, targets: &[u64], room: usize, counted: usize)
-    requires { ⌜ (room ≤ 38) × (counted ≤ 6) ⌝ }
+    requires { ⌜ (room ≤ 38) × (counted ≤ 38) ⌝ }
 {
     let mut places = [77u64; 40];
     let mut counts = [77u64; 40];
@@ -91,10 +104,7 @@ fn through(n: u64, source: u64, doors: u64, targets: &[u64], room: usize, counte
         &mut counts[..counted],
     );
     put_request(b"through", n, source, doors, targets);
-    put_checked(checked);
-    put_first(b" places", &places, room + 2);
-    put_first(b" counts", &counts, counted + 2);
-    io::write_all(STDOUT_FILENO, b"\n");
+    put_outcome(checked, &places, room, &counts, counted);
 }
 
 fn granted() {
