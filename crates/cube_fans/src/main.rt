@@ -114,12 +114,16 @@ fn granted() {
     plan(3, 0, &[3, 5, 6], 15, 3);
     plan(4, 9, &[6, 8, 15, 0], 24, 4);
     plan(32, 4294967295, &[0], 34, 1);
+}
+
+fn granted_through_doors() {
     through(2, 0, 2, &[1], 4, 1);
     through(3, 0, 6, &[1, 7], 10, 2);
     through(3, 0, 7, &[3, 1, 2], 15, 3);
 }
 
-fn refused() {
+// 1, 2, 3, 4.
+fn refused_at_once() {
     plan(0, 0, &[1], 20, 4);
     plan(33, 0, &[1], 20, 4);
     plan(33, 18446744073709551615, &[], 0, 0);
@@ -128,14 +132,26 @@ fn refused() {
     plan(3, 0, &[], 20, 4);
     plan(3, 0, &[1, 2, 3, 4], 20, 4);
     plan(3, 0, &[9, 0, 1, 1], 0, 0);
+}
+
+// 5, 6, 7.
+fn refused_for_a_target() {
     plan(3, 0, &[1, 8], 20, 4);
     plan(3, 0, &[0, 1, 8], 0, 0);
     plan(3, 0, &[1, 0, 1], 20, 4);
     plan(3, 5, &[1, 1, 5], 0, 0);
     plan(3, 0, &[1, 2, 1], 20, 4);
+}
+
+// 8.
+fn refused_for_room() {
     plan(3, 0, &[1, 2, 4], 14, 3);
     plan(3, 0, &[1, 2, 4], 15, 2);
     plan(32, 0, &[1], 33, 1);
+}
+
+// 11, after 1 to 7 and before 8.
+fn refused_for_doors() {
     through(33, 0, 1, &[1], 20, 4);
     through(3, 0, 0, &[1, 1], 20, 4);
     through(3, 0, 8, &[1], 20, 4);
@@ -145,5 +161,9 @@ fn refused() {
 
 fn main() {
     granted();
-    refused();
+    granted_through_doors();
+    refused_at_once();
+    refused_for_a_target();
+    refused_for_room();
+    refused_for_doors();
 }
