@@ -1,5 +1,7 @@
 -- What the cube's planners promise, and the laws of it.
 pub mod Promise
-pub mod Laws
+pub mod Laying
+pub mod Order
 pub mod Results
-pub mod CaseG
+pub mod Callers
+pub mod Cases

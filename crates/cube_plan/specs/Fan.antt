@@ -11,12 +11,12 @@ use lib.Seq.{getD-set-same, getD-set-other}
 use Rattle.bits.specs.Bit.{bit}
 use Rattle.bits.specs.Laws.{lt-or-le}
 use Rattle.paths.specs.Fan as fan
-use Rattle.paths.specs.Lists.{Laid}
+use Rattle.paths.specs.Lists.{ahead, ahead-at, ahead-length, Laid}
 use Rattle.doors.specs.Doors.{Doors}
 use Rattle.doors.specs.Paths.{same-or}
 use Rattle.doors.specs.Request.{doors-same, request-same}
 use Rattle.doors.specs.Plain.{bit-full, full-below, cube-request}
-use Rattle.grid.specs.Grid.{ahead, ahead-at, ahead-length, row-room, count, hops, hops-length, hops-same, target, lone-target, Sets, only-rest}
+use Rattle.grid.specs.Grid.{row-room, count, hops, hops-length, hops-same, target, lone-target, Sets, only-rest}
 use Rattle.cube_plan.specs.Plan.{Asked, Planned}
 
 -- below i + 1 and not i

@@ -14,7 +14,7 @@ use Rattle.doors.specs.Single.{bit-differs, differs-bit}
 use Rattle.doors.specs.Choose.{Chosen, less-or, ones-less, ones-some}
 use Rattle.doors.specs.Request.{Request, Settled, without-flip, far-request}
 use Rattle.grid.specs.Grid.{hops, target, Keeps, New, lone-target, new-same, new-kept}
-use Rattle.moves.specs.Cut.{Like, Unlike, Parting, StoodIn}
+use Rattle.moves.specs.Cut.{Like, Unlike, HomeOf, Parting, StoodIn}
 
 -- ---- both sides
 
@@ -133,6 +133,16 @@ module _ (free s shut m : ℕ) (to : ℕ → ℕ) (q : Request free s shut m to)
     home-not : (j : ℕ) → Unlike to f free j → to j ≢ flip s b
     home-not j ne e = ne (same-all-bits (bitAnd (bitXor (to j) f) free) 0 (λ c.
         omega (arith, bit-and c (bitXor (to j) f) free, ap (bit c) (ap (λ (y : ℕ). bitXor y f) (e ∙ sym (h .is-f)) ∙ xor-self f), bit-none c)))
+
+    -- an open door has no target behind it
+    pub home-chosen : (home : ℕ) → Settled free s shut m to → HomeOf to far f free shut b home → Chosen (Like to f free) (Unlike to f free) far home
+    home-chosen home settled a = ⊎-elim
+        (λ z. let none : (j : ℕ) → bit j home ≡ 0 = λ j. ap (bit j) (a .ajar z) ∙ bit-none j in record {
+          sub = λ j o. absurd (clash (none j) o);
+          holds = λ j o. absurd (clash (none j) o);
+          fails = λ j o y like. clash z (settled j b (far-sub j o) (h .within) (home-is j (far-sub j o) like));
+        })
+        (a .barred) (bit-cases b shut)
 
     is-home : (home : ℕ) → Chosen (Like to f free) (Unlike to f free) far home → (j : ℕ) → bit j home ≡ 1 → to j ≡ flip s b
     is-home home c j o = home-is j (far-sub j (c .sub j o)) (c .holds j o)

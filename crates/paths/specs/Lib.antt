@@ -3,6 +3,7 @@ pub mod Mesh
 pub mod Fan
 pub mod Finding
 pub mod Lists
+pub mod Read
 pub mod Clear
 pub mod Judged
 pub mod Whole

@@ -1,6 +1,6 @@
 -- Paths as lists, and lists laid out in the lent slices. A path is the list of the relays after its source, in order.
 -- Main result `laid-fan`: lists that are a fan are one where they are laid out. Assumes nothing.
-use Prim.Native.Nat.{ℕ, zero, suc, _+_, _≤_, _<_}
+use Prim.Native.Nat.{ℕ, zero, suc, _+_, _-_, _≤_, _<_}
 use mathlib.Core.Path.{_≡_, refl, sym, ap, _∙_, subst}
 use mathlib.Core.Bool.{true}
 use mathlib.Core.Logic.{_⊎_, inl, inr, _≢_}
@@ -40,6 +40,27 @@ pub record Laid (w s k : ℕ) (paths : ℕ → List ℕ) (places counts : List �
   pub count : (i : ℕ) → i < k → hops counts i ≡ length (paths i)
 
 -- ---- the places of one list
+
+-- n numbers from the place `from` on
+unfoldable pub ahead : List ℕ → ℕ → ℕ → List ℕ
+ahead l from zero = []
+ahead l from (suc n) = getD l from 0 ∷ ahead l (suc from) n
+
+pub ahead-length : (l : List ℕ) (from n : ℕ) → length (ahead l from n) ≡ n
+unfolding ahead
+ahead-length l from zero = refl
+ahead-length l from (suc n) = ap suc (ahead-length l (suc from) n)
+
+pub ahead-at : (l : List ℕ) (from n d p : ℕ) → p < n → getD (ahead l from n) p d ≡ getD l (from + p) 0
+unfolding ahead
+ahead-at l from zero d p h = absurd (omega arith)
+ahead-at l from (suc n) d zero h = ap (λ (i : ℕ). getD l i 0) (omega arith)
+ahead-at l from (suc n) d (suc p) h = ahead-at l (suc from) n d p (omega arith) ∙ ap (λ (i : ℕ). getD l i 0) (omega arith)
+
+pub ahead-cons : (l : List ℕ) (from n : ℕ) → 0 < n → ahead l from n ≡ getD l from 0 ∷ ahead l (suc from) (n - 1)
+unfolding ahead
+ahead-cons l from zero h = absurd (omega arith)
+ahead-cons l from (suc n) h = let less : n ≡ suc n - 1 = omega arith in ap (λ (k : ℕ). getD l from 0 ∷ ahead l (suc from) k) less
 
 pub in-at : (l : List ℕ) (d p : ℕ) → p < length l → In (getD l p d) l
 in-at [] d p h = absurd (omega arith)

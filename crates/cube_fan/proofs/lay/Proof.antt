@@ -1,7 +1,7 @@
 -- `cube_fan::lay` meets its contract: 8 where there is no room, and otherwise what `cube_plan` gives. Assumes nothing.
 use mathlib.Core.Path.{refl, sym, _∙_}
 use native.Mathlib.Omega.{arith}
-use Rattle.cube_fan.specs.Laws.{short-is, no-room, sought, laid-out}
+use Rattle.cube_fan.specs.Laying.{short-is, no-room, sought, laid-out}
 use borrow.Author.Needs.{needs}
 use Rattle.cube_fan.proofs.lay.Statement.{statement}
 use Rattle.cube_fan.proofs.lay.Tie as tie

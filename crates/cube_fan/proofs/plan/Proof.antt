@@ -2,7 +2,7 @@
 use mathlib.Core.Path.{sym, ap, _∙_}
 use mathlib.Core.Bool.{false}
 use Rattle.answers.specs.Told.{against}
-use Rattle.cube_fan.specs.Laws.{asked, plan-refused, plan-laid}
+use Rattle.cube_fan.specs.Order.{asked, plan-refused, plan-laid}
 use borrow.Author.Needs.{needs}
 use Rattle.cube_fan.proofs.plan.Statement.{statement}
 use Rattle.cube_fan.proofs.plan.Tie as tie

@@ -1,7 +1,7 @@
 -- `cube_fan::plan_through` meets its contract: what `request` refuses, 11, or what `lay` gives with the other doors shut. Assumes nothing.
 use mathlib.Core.Path.{sym, ap, _∙_}
 use Rattle.answers.specs.Told.{against}
-use Rattle.cube_fan.specs.Laws.{asked, asked-through, through-refused, through-bad, through-laid}
+use Rattle.cube_fan.specs.Order.{asked, asked-through, through-refused, through-bad, through-laid}
 use borrow.Author.Needs.{needs}
 use Rattle.cube_fan.proofs.plan_through.Statement.{statement}
 use Rattle.cube_fan.proofs.plan_through.Tie as tie

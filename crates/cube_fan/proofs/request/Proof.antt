@@ -1,7 +1,7 @@
 -- `cube_fan::request` meets its contract: 1 first, then 2 to 7. Assumes nothing.
 use mathlib.Core.Path.{sym, _∙_}
 use native.Mathlib.Omega.{arith}
-use Rattle.cube_fan.specs.Laws.{early-known, early-unknown, known-size}
+use Rattle.cube_fan.specs.Order.{early-known, early-unknown, known-size}
 use borrow.Author.Needs.{needs}
 use Rattle.cube_fan.proofs.request.Statement.{statement}
 use Rattle.cube_fan.proofs.request.Tie as tie

@@ -1,5 +1,4 @@
--- Case G: in the cube of 2 dimensions the paths 0, 2, 3 and 0, 1 are a fan from 0 to 3 and 1 (`case-g-fan`), and there is no other (`case-g-only`).
--- Assumes nothing.
+-- Case G (`case-g`): in the cube of 2 dimensions the paths 0, 2, 3 and 0, 1 are a fan from 0 to 3 and 1, and there is no other. Assumes nothing.
 use Prim.Native.Nat.{ℕ, zero, suc, _+_, _≤_, _<_}
 use mathlib.Core.Path.{_≡_, refl, sym, ap, _∙_}
 use mathlib.Core.Bool.{true}
@@ -19,10 +18,6 @@ use Rattle.cube.specs.Cube.{linked, cube}
 abbrev targets : List ℕ
 targets = 3 ∷ 1 ∷ []
 
-pub case-g-fan : Fan (cube 2) 0 targets (0 ∷ 2 ∷ 3 ∷ filler ∷ 0 ∷ 1 ∷ filler ∷ filler ∷ []) (2 ∷ 1 ∷ [])
-unfolding finding findingFrom findingOf unlinkedAt seenAt unfilledAt unlinked seen on unfilled relay hops seek any among linked ones
-case-g-fan = clean-fan (cube 2) 0 targets (0 ∷ 2 ∷ 3 ∷ filler ∷ 0 ∷ 1 ∷ filler ∷ filler ∷ []) (2 ∷ 1 ∷ []) refl
-
 -- the two paths, as they stand in the slices
 pub record TheFan (places counts : List ℕ) : Type 0 where
   pub first-hops : hops counts 0 ≡ 2
@@ -32,6 +27,10 @@ pub record TheFan (places counts : List ℕ) : Type 0 where
   pub second-hops : hops counts 1 ≡ 1
   pub second-start : relay 4 places 1 0 ≡ 0
   pub second-end : relay 4 places 1 1 ≡ 1
+
+pub record CaseG : Type 0 where
+  pub is : Fan (cube 2) 0 targets (0 ∷ 2 ∷ 3 ∷ filler ∷ 0 ∷ 1 ∷ filler ∷ filler ∷ []) (2 ∷ 1 ∷ [])
+  pub only : (places counts : List ℕ) → Fan (cube 2) 0 targets places counts → TheFan places counts
 
 -- the links of 0 and of 2
 of-0 : (v : ℕ) → v < 4 → linked 0 v ≡ true → (v ≡ 1) ⊎ (v ≡ 2)
@@ -106,8 +105,8 @@ module _ (places counts : List ℕ) (f : Fan (cube 2) 0 targets places counts) w
       (λ (e : at 1 1 ≡ 2). absurd (omega (arith, again 1 0 0 1 (omega arith) (omega arith) second-hop (omega (arith, first-hop)) (e ∙ sym middle) .0)))
       (let k = hop 1 0 0 (omega arith) second-hop (start 1 (omega arith)) in of-0 (at 1 1) (k .0) (k .1))
 
-  pub case-g-only : TheFan places counts
-  case-g-only = record {
+  the-fan : TheFan places counts
+  the-fan = record {
     first-hops = ended 0 1 (omega arith) third-hop end;
     first-start = start 0 (omega arith);
     first-middle = middle;
@@ -116,3 +115,10 @@ module _ (places counts : List ℕ) (f : Fan (cube 2) 0 targets places counts) w
     second-start = start 1 (omega arith);
     second-end = second-end;
   }
+
+pub case-g : CaseG
+unfolding finding findingFrom findingOf unlinkedAt seenAt unfilledAt unlinked seen on unfilled relay hops seek any among linked ones
+case-g = record {
+  is = clean-fan (cube 2) 0 targets (0 ∷ 2 ∷ 3 ∷ filler ∷ 0 ∷ 1 ∷ filler ∷ filler ∷ []) (2 ∷ 1 ∷ []) refl;
+  only = the-fan;
+}

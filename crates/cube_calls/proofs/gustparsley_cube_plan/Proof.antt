@@ -1,0 +1,27 @@
+-- `cube_calls::gustparsley_cube_plan` meets its contract. Assumes nothing.
+use mathlib.Core.Path.{ap, _∙_}
+use Rattle.cube_calls.specs.Called.{numberTold}
+use borrow.Author.Needs.{needs}
+use Rattle.cube_calls.proofs.gustparsley_cube_plan.Statement.{statement}
+use Rattle.cube_calls.proofs.gustparsley_cube_plan.Tie as tie
+
+plan-requires : tie.Need-plan-requires
+plan-requires c κs = search needs
+
+number-requires : tie.Need-number-requires
+number-requires c κs = search needs
+
+same-length : tie.Need-same-length
+same-length c = search needs
+
+same-length-2 : tie.Need-same-length-2
+same-length-2 c = search needs
+
+returns : tie.Need-returns
+returns c =
+    let p = c .before .before .before .before .before .plan .ensures in
+    record { told = c .number .ensures ∙ ap numberTold (p .told); answer = _; planned = p }
+
+pub gustparsley-cube-plan-spec : {M : Type 1} → statement M
+gustparsley-cube-plan-spec =
+    tie.close (tie.spec plan-requires number-requires same-length same-length-2 returns)

@@ -1,0 +1,63 @@
+-- `cube_fans::put_first` is safe and ends: the measure is what is left. Assumes nothing.
+use Prim.Native.Nat.{_≤_, _-_}
+use borrow.Author.Needs.{needs}
+use Rattle.cube_fans.proofs.put_first.Statement.{statement}
+use Rattle.cube_fans.proofs.put_first.Tie as tie
+
+abbrev Inv-loop : tie.InvT-loop
+Inv-loop word list k i₀ i = i ≤ k
+
+abbrev μ-loop : tie.MeasureT-loop
+μ-loop word list k i₀ i = k - i
+
+-- src/main.rt:51:5
+write-all-requires : tie.Need-write-all-requires Inv-loop μ-loop
+write-all-requires c κs = search needs
+
+-- src/main.rt:53:5
+loop-holds : tie.Need-loop-holds Inv-loop μ-loop
+loop-holds c = search needs
+
+-- src/main.rt:54:13
+mul-put : tie.Need-mul-put Inv-loop μ-loop
+mul-put c = search needs
+
+-- src/main.rt:54:13
+element-copy-out-put : tie.Need-element-copy-out-put Inv-loop μ-loop
+element-copy-out-put c = search needs
+
+-- src/main.rt:54:9
+put-requires : tie.Need-put-requires Inv-loop μ-loop
+put-requires c κs = search needs
+
+-- src/main.rt:55:9
+add-i : tie.Need-add-i Inv-loop μ-loop
+add-i c = search needs
+
+-- src/main.rt:53:5
+loop-less : tie.Need-loop-less Inv-loop μ-loop
+loop-less c = search needs
+
+-- src/main.rt:53:5
+loop-again : tie.Need-loop-again Inv-loop μ-loop
+loop-again c = search needs
+
+-- src/main.rt:48:1
+returns : tie.Need-returns Inv-loop μ-loop
+returns c = search needs
+
+pub put-first-spec : {M : Type 1} → statement M
+put-first-spec =
+    tie.close
+    (tie.spec
+    Inv-loop
+    μ-loop
+    write-all-requires
+    loop-holds
+    mul-put
+    element-copy-out-put
+    put-requires
+    add-i
+    loop-less
+    loop-again
+    returns)

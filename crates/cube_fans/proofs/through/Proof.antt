@@ -1,0 +1,56 @@
+-- `cube_fans::through` is safe: the lent parts have as many places as were asked. Assumes nothing.
+use native.Mathlib.Omega.{arith}
+use lib.ListN.{length-take}
+use borrow.Author.Needs.{needs}
+use Rattle.cube_fans.proofs.through.Statement.{statement}
+use Rattle.cube_fans.proofs.through.Tie as tie
+
+-- src/main.rt:103:9
+array-borrow-prefix-places : tie.Need-array-borrow-prefix-places
+array-borrow-prefix-places c = search needs
+
+-- src/main.rt:103:9
+slice-aggregate-plan-through : tie.Need-slice-aggregate-plan-through
+slice-aggregate-plan-through c = simp length-take (omega arith)
+
+-- src/main.rt:104:9
+array-borrow-prefix-counts : tie.Need-array-borrow-prefix-counts
+array-borrow-prefix-counts c = search needs
+
+-- src/main.rt:104:9
+slice-aggregate-plan-through-2 : tie.Need-slice-aggregate-plan-through-2
+slice-aggregate-plan-through-2 c = simp length-take (omega arith)
+
+-- src/main.rt:98:9
+plan-through-requires : tie.Need-plan-through-requires
+plan-through-requires c κs = search needs
+
+-- src/main.rt:106:17
+slice-aggregate-put-request : tie.Need-slice-aggregate-put-request
+slice-aggregate-put-request c = search needs
+
+-- src/main.rt:106:5
+put-request-requires : tie.Need-put-request-requires
+put-request-requires c κs = search needs
+
+-- src/main.rt:107:5
+put-outcome-requires : tie.Need-put-outcome-requires
+put-outcome-requires c κs = search needs
+
+-- src/main.rt:93:1
+returns : tie.Need-returns
+returns c = search needs
+
+pub through-spec : {M : Type 1} → statement M
+through-spec =
+    tie.close
+    (tie.spec
+    array-borrow-prefix-places
+    slice-aggregate-plan-through
+    array-borrow-prefix-counts
+    slice-aggregate-plan-through-2
+    plan-through-requires
+    slice-aggregate-put-request
+    put-request-requires
+    put-outcome-requires
+    returns)
