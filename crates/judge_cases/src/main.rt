@@ -133,21 +133,19 @@ fn case(list: &[u64], at: usize) -> usize
     e + 3
 }
 
-fn cases(list: &[u64]) {
+// The cases among the first n numbers.
+fn cases(list: &[u64], n: usize) {
+    let end = script::least(n, list.len());
     let mut at: usize = 0;
-    while at < list.len() {
+    while at < end {
         at = case(list, at);
     }
-}
-
-fn asked(bytes: &[u8], list: &mut [u64]) {
-    let k = script::numbers(bytes, list);
-    cases(&list[..k]);
 }
 
 fn main() {
     let mut bytes = io::large_buffer();
     let mut list = [0u64; 32768];
     let n = io::read_full(0, &mut bytes);
-    asked(&bytes[..n], &mut list);
+    let k = script::numbers(&bytes[..n], &mut list);
+    cases(&list, k);
 }

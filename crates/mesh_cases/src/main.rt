@@ -76,22 +76,20 @@ fn case(list: &[u64], i: usize)
     pair(mesh, list[i + 2], list[i + 3], list[i + 4] as usize);
 }
 
-fn cases(list: &[u64]) {
+// The cases among the first n numbers.
+fn cases(list: &[u64], n: usize) {
+    let end = script::least(n, list.len());
     let mut i: usize = 0;
-    while i + 5 <= list.len() {
+    while i + 5 <= end {
         case(list, i);
         i += 5;
     }
-}
-
-fn asked(bytes: &[u8], list: &mut [u64]) {
-    let k = script::numbers(bytes, list);
-    cases(&list[..k]);
 }
 
 fn main() {
     let mut bytes = io::large_buffer();
     let mut list = [0u64; 4096];
     let n = io::read_full(0, &mut bytes);
-    asked(&bytes[..n], &mut list);
+    let k = script::numbers(&bytes[..n], &mut list);
+    cases(&list, k);
 }

@@ -1,15 +1,17 @@
--- `mesh_cases::cases` ends: the measure is what is left of the list. Assumes nothing.
+-- `mesh_cases::cases` ends: the measure is what is left of the numbers. Assumes nothing.
 use Prim.Native.Nat.{_-_, _≤_}
-use lib.ListN.{length}
 use borrow.Author.Needs.{needs}
 use Rattle.mesh_cases.proofs.cases.Statement.{statement}
 use Rattle.mesh_cases.proofs.cases.Tie as tie
 
 abbrev Inv-loop : tie.InvT-loop
-Inv-loop list i₀ i = i ≤ length list
+Inv-loop list n end i₀ i = i ≤ end
 
 abbrev μ-loop : tie.MeasureT-loop
-μ-loop list i₀ i = length list - i
+μ-loop list n end i₀ i = end - i
+
+least-requires : tie.Need-least-requires Inv-loop μ-loop
+least-requires c κs = search needs
 
 loop-holds : tie.Need-loop-holds Inv-loop μ-loop
 loop-holds c = search needs
@@ -35,4 +37,14 @@ returns c = search needs
 pub cases-spec : {M : Type 1} → statement M
 cases-spec =
     tie.close
-    (tie.spec Inv-loop μ-loop loop-holds add-loop case-requires add-i loop-less loop-again returns)
+    (tie.spec
+    Inv-loop
+    μ-loop
+    least-requires
+    loop-holds
+    add-loop
+    case-requires
+    add-i
+    loop-less
+    loop-again
+    returns)
