@@ -1,11 +1,12 @@
 -- Answers that tell the same are the same (`answer-unique`, `yes-no-unique`, `checked-unique`): so a promise of what an answer tells leaves
 -- one answer. Assumes nothing.
-use Prim.Native.Nat.{ℕ, zero, suc}
+use Prim.Native.Nat.{ℕ, zero, suc, _<_}
 use mathlib.Core.Path.{_≡_, refl, sym, ap, _∙_}
 use mathlib.Core.Bool.{Bool, true, false}
 use mathlib.Core.Option.{Option, none, some}
 use native.Mathlib.Omega.{arith}
 use lib.Dec.{eqb, leb}
+use borrow.Author.Tests.{ne-eqb, lt-leb}
 use Rattle.scan.specs.Scan.{pick}
 use Rattle.answers.specs.Told.{number, place, Told, told, tell, answerTold, yesNoTold, against}
 use Rattle.answers.specs.declared.Refusal.{Refusal}
@@ -45,33 +46,25 @@ refusal-back (TargetAgain p) = refl
 refusal-back BadDoors = refl
 refusal-back NoRoom = refl
 
--- no refusal has the number 0
-pub number-some : (why : Refusal) → eqb (number why) 0 ≡ false
-number-some Unreadable = refl
-number-some UnknownSize = refl
-number-some NoDistance = refl
-number-some SourceOut = refl
-number-some NoTarget = refl
-number-some TooMany = refl
-number-some (TargetOut p) = refl
-number-some (TargetIsSource p) = refl
-number-some (TargetAgain p) = refl
-number-some BadDoors = refl
-number-some NoRoom = refl
+-- the numbers of refusals: none is 0, and all are below those of the findings
+number-within : (why : Refusal) → (0 < number why) × (number why < 20)
+number-within Unreadable = omega arith
+number-within UnknownSize = omega arith
+number-within NoDistance = omega arith
+number-within SourceOut = omega arith
+number-within NoTarget = omega arith
+number-within TooMany = omega arith
+number-within (TargetOut p) = omega arith
+number-within (TargetIsSource p) = omega arith
+number-within (TargetAgain p) = omega arith
+number-within BadDoors = omega arith
+number-within NoRoom = omega arith
 
--- all are below the numbers of the findings
+pub number-some : (why : Refusal) → eqb (number why) 0 ≡ false
+number-some why = ne-eqb (number why) 0 (λ e. omega (arith, number-within why .0))
+
 pub number-below : (why : Refusal) → leb 20 (number why) ≡ false
-number-below Unreadable = refl
-number-below UnknownSize = refl
-number-below NoDistance = refl
-number-below SourceOut = refl
-number-below NoTarget = refl
-number-below TooMany = refl
-number-below (TargetOut p) = refl
-number-below (TargetIsSource p) = refl
-number-below (TargetAgain p) = refl
-number-below BadDoors = refl
-number-below NoRoom = refl
+number-below why = lt-leb 20 (number why) (number-within why .1)
 
 answerOf : Told ℕ → Answer
 answerOf (told n p v) = pick (eqb n 0) (answer.Value v) (answer.Refused (refusal n p))

@@ -31,7 +31,7 @@ pub enum Finding {
 }
 
 // What a search for findings ends with.
-pub enum Search {
+enum Search {
     Clean,
     Found(Finding),
 }

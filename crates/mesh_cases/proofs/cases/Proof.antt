@@ -1,0 +1,50 @@
+-- `mesh_cases::cases` ends: the measure is what is left of the numbers. Assumes nothing.
+use Prim.Native.Nat.{_-_, _≤_}
+use borrow.Author.Needs.{needs}
+use Rattle.mesh_cases.proofs.cases.Statement.{statement}
+use Rattle.mesh_cases.proofs.cases.Tie as tie
+
+abbrev Inv-loop : tie.InvT-loop
+Inv-loop list n end i₀ i = i ≤ end
+
+abbrev μ-loop : tie.MeasureT-loop
+μ-loop list n end i₀ i = end - i
+
+least-requires : tie.Need-least-requires Inv-loop μ-loop
+least-requires c κs = search needs
+
+loop-holds : tie.Need-loop-holds Inv-loop μ-loop
+loop-holds c = search needs
+
+add-loop : tie.Need-add-loop Inv-loop μ-loop
+add-loop c = search needs
+
+case-requires : tie.Need-case-requires Inv-loop μ-loop
+case-requires c κs = search needs
+
+add-i : tie.Need-add-i Inv-loop μ-loop
+add-i c = search needs
+
+loop-less : tie.Need-loop-less Inv-loop μ-loop
+loop-less c = search needs
+
+loop-again : tie.Need-loop-again Inv-loop μ-loop
+loop-again c = search needs
+
+returns : tie.Need-returns Inv-loop μ-loop
+returns c = search needs
+
+pub cases-spec : {M : Type 1} → statement M
+cases-spec =
+    tie.close
+    (tie.spec
+    Inv-loop
+    μ-loop
+    least-requires
+    loop-holds
+    add-loop
+    case-requires
+    add-i
+    loop-less
+    loop-again
+    returns)

@@ -1,0 +1,290 @@
+#!/usr/bin/env python3
+"""What crates/judge_cases is asked, and what it is to write, from the specification's rules alone.
+
+    python3 tests/judge_model.py stdin | cmp - crates/judge_cases/stdin
+    python3 tests/judge_model.py stdout | cmp - crates/judge_cases/stdout
+
+The meshes are mesh_model.py's. Fans are planned here by a search for paths that share nothing, and then damaged.
+"""
+import sys
+from collections import deque
+
+from mesh_model import WORD, mesh_of
+
+FILLER = WORD
+HELD = 9
+
+
+# ---- the judge
+
+def request(mesh, s, targets):
+    """Number and place of the first reason of 1 to 7, or None."""
+    if mesh is None:
+        return 1, 0
+    if s >= mesh.relays:
+        return 2, 0
+    if not targets:
+        return 3, 0
+    if len(targets) > mesh.links:
+        return 4, 0
+    for number, wrong in (
+        (5, lambda j: targets[j] >= mesh.relays), (6, lambda j: targets[j] == s), (7, lambda j: targets[j] in targets[:j])
+    ):
+        for j in range(len(targets)):
+            if wrong(j):
+                return number, j
+    return None
+
+
+def of_path(mesh, s, target, path, hops, earlier):
+    """Number and place of the first finding of a path of longest + 1 places, or None; `earlier` are the relays of the paths before."""
+    if hops > mesh.longest:
+        return 20, 0
+    if path[0] != s:
+        return 21, 0
+    for p in range(1, hops + 1):
+        if path[p] >= mesh.relays or not mesh.linked(path[p - 1], path[p]):
+            return 22, p
+    if path[hops] != target:
+        return 23, hops
+    for p in range(hops + 1):
+        if path[p] in path[:p] or (p > 0 and path[p] in earlier):
+            return 24, p
+    for p in range(hops + 1, mesh.longest + 1):
+        if path[p] != FILLER:
+            return 25, p
+    return None
+
+
+def finding(mesh, s, targets, places, counts):
+    """Number, path and place of the first finding, or None."""
+    width, earlier = mesh.longest + 1, set()
+    for i, target in enumerate(targets):
+        path = places[i * width: (i + 1) * width]
+        found = of_path(mesh, s, target, path, counts[i], earlier)
+        if found:
+            return found[0], i, found[1]
+        earlier |= set(path[: counts[i] + 1])
+    return None
+
+
+def judge(kind, size, s, targets, places, counts, lacking=False):
+    mesh, k = mesh_of(kind, size), len(targets)
+    why = request(mesh, s, targets)
+    if why:
+        return why[0], 0, why[1]
+    if lacking or len(places) < k * (mesh.longest + 1) or len(counts) < k:
+        return 8, 0, 0
+    return finding(mesh, s, targets, places, counts) or (0, 0, 0)
+
+
+def survivors(kind, size, s, targets, places, counts, stopped, room):
+    """What is told, the count, and the columns."""
+    k, columns = len(targets), [[HELD] * n for n in room]
+    told = judge(kind, size, s, targets, places, counts, any(n < k for n in room))
+    if told[0]:
+        return told, 0, columns
+    width = mesh_of(kind, size).longest + 1
+    whole = [int(not any(x in stopped for x in places[i * width: i * width + counts[i] + 1])) for i in range(k)]
+    for column, values in zip(columns, (targets, counts, whole)):
+        column[:k] = values[:k]
+    return told, sum(whole), columns
+
+
+# ---- fans
+
+def apart(mesh, links, s, targets):
+    """A path to each target that shares nothing with the others but s, the first found, short ones first."""
+    far = {}
+    for t in targets:
+        steps, todo = {t: 0}, deque([t])
+        while todo:
+            u = todo.popleft()
+            for v in links[u]:
+                if v not in steps:
+                    steps[v] = steps[u] + 1
+                    todo.append(v)
+        far[t] = steps
+
+    def ways(path, t, left, shut):
+        """The paths on from `path` to t with so many hops left."""
+        u = path[-1]
+        if u == t:
+            if left == 0:
+                yield path
+        elif far[t][u] <= left:
+            for v in links[u]:
+                if v not in shut and v not in path:
+                    yield from ways(path + [v], t, left - 1, shut)
+
+    def lay(i, shut):
+        if i == len(targets):
+            return []
+        for hops in range(mesh.longest + 1):
+            for path in ways([s], targets[i], hops, (shut | set(targets)) - {targets[i]}):
+                rest = lay(i + 1, shut | set(path[1:]))
+                if rest is not None:
+                    return [path] + rest
+        return None
+
+    return lay(0, set())
+
+
+def laid(mesh, paths):
+    """Places and counts."""
+    places = []
+    for path in paths:
+        places += path + [FILLER] * (mesh.longest + 1 - len(path))
+    return places, [len(path) - 1 for path in paths]
+
+
+def fan(kind, size, s, targets):
+    mesh = mesh_of(kind, size)
+    links = {u: [v for v in range(mesh.relays) if mesh.linked(u, v)] for u in range(mesh.relays)}
+    return laid(mesh, apart(mesh, links, s, targets))
+
+
+# ---- the cases
+
+SMALL = [(1, 3, 0, [7, 1, 6]), (2, 1, 0, [4, 6]), (2, 1, 5, [1])]
+FANS = SMALL + [(1, 1, 1, [0]), (1, 2, 0, [3, 1]), (1, 4, 9, [6, 8, 15, 0]), (2, 1, 0, [5, 1]), (2, 2, 27, [0, 63, 26])]
+
+
+def refusals():
+    """Each reason alone and before those that come after it, at each place it can tell."""
+    for kind, size in ((0, 1), (1, 0), (1, 33), (2, 0), (2, 6), (3, 1), (WORD, WORD)):
+        yield kind, size, 0, [1], [], [], [], (1, 1, 1)
+        yield kind, size, WORD, [], [], [], [], (0, 0, 0)
+    for kind, size, s, targets in ((1, 3, 0, [7, 1, 6]), (2, 1, 0, [4, 6])):
+        mesh = mesh_of(kind, size)
+        places, counts = fan(kind, size, s, targets)
+        k, out = len(targets), mesh.relays
+        full = (k, k, k)
+        yield kind, size, out, targets, places, counts, [], full
+        yield kind, size, WORD, [], places, counts, [], full
+        yield kind, size, s, [], places, counts, [], full
+        many = list(range(1, mesh.links + 2))
+        yield kind, size, s, many, places, counts, [], full
+        yield kind, size, s, [out] * (mesh.links + 1), [], [], [], (0, 0, 0)
+        for j in range(k):
+            for wrong in (out, WORD, s):
+                bad = targets[:j] + [wrong] + targets[j + 1:]
+                yield kind, size, s, bad, places, counts, [], full
+            # out of range at j, whatever stands before it
+            yield kind, size, s, [s] * j + [out] + [out] * (k - j - 1), places, counts, [], full
+            # the source at j, after a target that stands twice
+            yield kind, size, s, [targets[0]] * j + [s] + [targets[0]] * (k - j - 1), places, counts, [], full
+            for i in range(j):
+                yield kind, size, s, targets[:j] + [targets[i]] + targets[j + 1:], [], [], [], (0, 0, 0)
+        # 8 for each slice that is one short, also where a finding stands
+        for short in (1, len(places)):
+            yield kind, size, s, targets, places[:-short], counts, [], full
+            yield kind, size, s, targets, [0] * (len(places) - short), counts, [], full
+        yield kind, size, s, targets, places, counts[:-1], [], full
+        yield kind, size, s, targets, places, [], [], full
+        for room in ((k - 1, k, k), (k, k - 1, k), (k, k, k - 1), (0, 0, 0)):
+            yield kind, size, s, targets, places, counts, [], room
+            yield kind, size, s, targets, [0] + places[1:-1] + [0], [WORD] + counts[1:], [], room
+    # K: order 3, four targets and five; M
+    mesh = mesh_of(2, 3)
+    four, counts = laid(mesh, [[0, t] for t in (1, 2, 4, 8)])
+    yield 2, 3, 0, [1, 2, 4, 8], four, counts, [2], (4, 4, 4)
+    yield 2, 3, 0, [1, 2, 4, 8, 9], four, counts, [], (5, 5, 5)
+    yield 1, 3, 0, [1, 0, 1], [0] * 15, [0] * 3, [], (3, 3, 3)
+
+
+def stops():
+    """Fans whole and with relays stopped, and slices longer than they need be."""
+    for kind, size, s, targets in FANS:
+        places, counts = fan(kind, size, s, targets)
+        k, mesh = len(targets), mesh_of(kind, size)
+        middle = sorted({x for x in places if x != FILLER and x != s and x not in targets})
+        for stopped in (
+            [], [s], [targets[0]], [targets[-1], targets[-1]], middle, middle[:1], [mesh.relays, WORD], targets, [x for x in range(mesh.relays) if x not in places]
+        ):
+            yield kind, size, s, targets, places, counts, stopped, (k, k, k)
+        yield kind, size, s, targets, places + [0, s, FILLER], counts + [WORD, 0], middle[:1] * 3, (k + 1, k + 2, k + 3)
+        # fewer targets than the fan has paths
+        yield kind, size, s, targets[:1], places, counts, [s + 1], (k, k, k)
+
+
+def damage():
+    """Each finding at each place of each path."""
+    for kind, size, s, targets in SMALL:
+        mesh = mesh_of(kind, size)
+        places, counts = fan(kind, size, s, targets)
+        k, width = len(targets), mesh.longest + 1
+        full = (k, k, k)
+
+        def case(places=places, counts=counts):
+            return kind, size, s, targets, places, counts, [s], full
+
+        # the right paths to other targets
+        other = next(x for x in range(mesh.relays) if x != s and x not in targets)
+        for i in range(k):
+            yield kind, size, s, targets[:i] + [other] + targets[i + 1:], places, counts, [], full
+        for i in range(k):
+            for hops in (mesh.longest + 1, WORD, mesh.longest, counts[i] + 1, 0):
+                yield case(counts=counts[:i] + [hops] + counts[i + 1:])
+            for p in range(width):
+                at = i * width + p
+                for wrong in sorted({(places[at] + 1) % mesh.relays, mesh.relays, FILLER, s, targets[i], targets[0], places[at - 1]} - {places[at]}):
+                    yield case(places=places[:at] + [wrong] + places[at + 1:])
+            # there and back: a relay twice on this path
+            way = places[i * width: i * width + counts[i] + 1]
+            for p in range(len(way) - 1):
+                longer = way[: p + 2] + way[p:]
+                if len(longer) <= width:
+                    yield case(places[: i * width] + longer + [FILLER] * (width - len(longer)) + places[(i + 1) * width:], counts[:i] + [len(longer) - 1] + counts[i + 1:])
+    # a path that runs through an earlier one, at each place: to 3 by way of 1, which is a target; by a relay of the path before
+    mesh = mesh_of(1, 3)
+    for paths in ([[0, 1], [0, 1, 3]], [[0, 1, 3], [0, 2, 3, 7]], [[0, 1, 3, 7], [0, 2, 3, 1, 5]], [[0, 2, 3], [0, 1]], [[0, 4, 6, 2], [0, 1, 5, 4, 6]]):
+        yield 1, 3, 0, [path[-1] for path in paths], *laid(mesh, paths), [], (2, 2, 2)
+    mesh = mesh_of(2, 1)
+    for paths in ([[0, 1], [0, 1, 5]], [[0, 1, 5], [0, 2, 3, 1]], [[0, 2, 3, 7], [0, 1, 3]], [[0, 1, 5, 4], [0, 2, 3, 7, 6]], [[0, 1, 5, 7, 6, 4], [0, 2, 3, 7]]):
+        yield 2, 1, 0, [path[-1] for path in paths], *laid(mesh, paths), [1], (2, 2, 2)
+
+
+def large():
+    """The largest meshes: as many paths as links, and the longest plain route."""
+    for kind, size in ((1, 32), (2, 5)):
+        mesh = mesh_of(kind, size)
+        near = [v for v in (2**i for i in range(37)) if v < mesh.relays and mesh.linked(0, v)]
+        k = len(near)
+        places, counts = laid(mesh, [[0, v] for v in near])
+        yield kind, size, 0, near, places, counts, near[:3], (k, k, k)
+        yield kind, size, 0, near, places[:-1] + [0], counts, [], (k, k, k)
+        yield kind, size, 0, near[:-1] + [mesh.relays], [], [], [], (k, k, k)
+    mesh = mesh_of(2, 5)
+    way = mesh.route(0, mesh.relays - 1)
+    places, counts = laid(mesh, [way])
+    yield 2, 5, 0, [mesh.relays - 1], places, counts, [way[-2]], (1, 1, 1)
+    yield 2, 5, 0, [mesh.relays - 1], places[:9] + [places[8]] + places[10:], counts, [], (1, 1, 1)
+
+
+def cases():
+    yield from refusals()
+    yield from stops()
+    yield from damage()
+    yield from large()
+
+
+def asked(kind, size, s, targets, places, counts, stopped, room):
+    words = [kind, size, s]
+    for run in (targets, places, counts, stopped):
+        words += [len(run), *run]
+    return " ".join("F" if w == FILLER else str(w) for w in [*words, *room])
+
+
+def answered(kind, size, s, targets, places, counts, stopped, room):
+    words = ["judge", *judge(kind, size, s, targets, places, counts)]
+    told, count, columns = survivors(kind, size, s, targets, places, counts, stopped, room)
+    words += ["survivors", *told, count]
+    for name, column in zip(("targets", "hops", "whole"), columns):
+        words += [name, *column]
+    return " ".join(map(str, words))
+
+
+if __name__ == "__main__":
+    for case in cases():
+        print(asked(*case) if sys.argv[1] == "stdin" else answered(*case))
