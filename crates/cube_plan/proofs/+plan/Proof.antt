@@ -1,0 +1,155 @@
+-- `cube_plan::plan` meets its contract. Assumes nothing.
+use native.Mathlib.Omega.{arith}
+use lib.Count.{ones}
+use Rattle.cube_plan.specs.Plan.{left-request, left-settled, left-rows, left-long, left-all, none-left, lone-left, one-left, two-left, rest-less, far-asked, far-long, far-ready, near-asked, both}
+use borrow.Author.Needs.{needs}
+use Prim.Native.Nat.{ℕ, _<_}
+use borrow.Fn.Kinds.{In}
+use borrow.Fn.PlainCycle.{Measures, is, falls, and}
+use Rattle.cube_plan.proofs.plan.Reads as plan
+use Rattle.cube_plan.proofs.plan.Kinds as plan-kinds
+use Rattle.cube_plan.proofs.+plan.Lts-plan as plan-lts
+use Rattle.bits.proofs.flip.Reads as flip-reads
+use Rattle.bits.proofs.lowest.Reads as lowest-reads
+use Rattle.grid.proofs.less.Reads as less-reads
+use Rattle.moves.proofs.bring.Reads as bring-reads
+use Rattle.moves.proofs.divide.Reads as divide-reads
+use Rattle.moves.proofs.single.Reads as single-reads
+use Rattle.moves.proofs.sort.Reads as sort-reads
+use Rattle.cube_plan.proofs.+plan.{statement}
+use Rattle.cube_plan.proofs.+plan.Tie.{close}
+
+abbrev μ-plan : Measures 1 plan-kinds.ps ℕ
+μ-plan κs a = ones (a .0)
+
+abbrev plan-at : ℕ → In 1 plan-kinds.ps
+plan-at t = and 1 plan-kinds.ps (is 1 plan-kinds.ps μ-plan t) plan.Pre
+
+abbrev plan-below : ℕ → In 1 plan-kinds.ps
+plan-below t = and 1 plan-kinds.ps (falls 1 plan-kinds.ps _<_ μ-plan t) plan.Pre
+
+abbrev K-plan : ℕ → plan-lts.Claims
+K-plan t = (sort-reads.Asked, sort-reads.Learnt, lowest-reads.Asked, lowest-reads.Learnt, flip-reads.Asked, flip-reads.Learnt, single-reads.Asked, single-reads.Learnt, divide-reads.Asked, divide-reads.Learnt, plan-below t, plan.Post, bring-reads.Asked, bring-reads.Learnt, less-reads.Asked, less-reads.Learnt)
+
+plan-sort-requires : (t : ℕ) → plan-lts.Need-sort-requires (K-plan t) (plan-at t) plan.Post
+plan-sort-requires t c κs = let q = c .before .pre .1 in (q .rows, q .long, q .request .held)
+
+plan-returns : (t : ℕ) → plan-lts.Need-returns (K-plan t) (plan-at t) plan.Post
+plan-returns t c =
+    let q = c .before .before .before .pre .1 in
+    let a = c .before .sort .ensures .0 in
+    let k = c .before .sort .ensures .1 in none-left _ _ _ _ _ _ q _ _ _ a k (c .if1 .taken)
+
+plan-lowest-requires : (t : ℕ) → plan-lts.Need-lowest-requires (K-plan t) (plan-at t) plan.Post
+plan-lowest-requires t c κs = search needs
+
+plan-flip-requires : (t : ℕ) → plan-lts.Need-flip-requires (K-plan t) (plan-at t) plan.Post
+plan-flip-requires t c κs = search needs
+
+plan-cast-single : (t : ℕ) → plan-lts.Need-cast-single (K-plan t) (plan-at t) plan.Post
+plan-cast-single t c = search needs
+
+plan-mul-single : (t : ℕ) → plan-lts.Need-mul-single (K-plan t) (plan-at t) plan.Post
+plan-mul-single t c = search needs
+
+plan-array-read-single : (t : ℕ) → plan-lts.Need-array-read-single (K-plan t) (plan-at t) plan.Post
+plan-array-read-single t c =
+    let q = c .before .before .before .before .before .before .pre .1 in
+    let a = c .before .before .before .before .sort .ensures .0 in
+    let k = c .before .before .before .before .sort .ensures .1 in left-rows _ _ _ _ _ _ q _ _ _ a k .below _ (c .before .before .lowest .ensures .set)
+
+plan-cast-single-2 : (t : ℕ) → plan-lts.Need-cast-single-2 (K-plan t) (plan-at t) plan.Post
+plan-cast-single-2 t c = search needs
+
+plan-single-requires : (t : ℕ) → plan-lts.Need-single-requires (K-plan t) (plan-at t) plan.Post
+plan-single-requires t c κs =
+    let q = c .before .before .before .before .before .before .before .pre .1 in
+    let a = c .before .before .before .before .before .sort .ensures .0 in
+    let k = c .before .before .before .before .before .sort .ensures .1 in lone-left _ _ _ _ _ _ q _ _ _ a k _ (c .before .before .before .lowest .ensures .set)
+
+plan-returns-2 : (t : ℕ) → plan-lts.Need-returns-2 (K-plan t) (plan-at t) plan.Post
+plan-returns-2 t c =
+    let q = c .before .before .before .before .before .before .before .before .pre .1 in
+    let a = c .before .before .before .before .before .before .sort .ensures .0 in
+    let k = c .before .before .before .before .before .before .sort .ensures .1 in one-left _ _ _ _ _ _ q _ _ _ a k _ _ _ (c .before .before .before .before .lowest .ensures .set) (c .before .before .before .flip .ensures) (c .before .before .if2 .taken) (c .single .ensures)
+
+plan-divide-requires : (t : ℕ) → plan-lts.Need-divide-requires (K-plan t) (plan-at t) plan.Post
+plan-divide-requires t c κs =
+    let q = c .before .before .before .before .before .before .pre .1 in
+    let a = c .before .before .before .before .sort .ensures .0 in
+    let k = c .before .before .before .before .sort .ensures .1 in (left-rows _ _ _ _ _ _ q _ _ _ a k, two-left _ _ _ _ _ _ q _ _ _ a k _ _ (c .before .before .lowest .ensures .set) (c .before .flip .ensures) (c .if2 .left), left-request _ _ _ _ _ _ q _ _ _ a k, left-settled _ _ _ _ _ _ q _ _ _ a k)
+
+plan-plan-requires : (t : ℕ) → plan-lts.Need-plan-requires (K-plan t) (plan-at t) plan.Post
+plan-plan-requires t c κs =
+    let q = c .before .before .before .before .before .before .before .before .before .pre .1 in
+    let a = c .before .before .before .before .before .before .before .sort .ensures .0 in
+    let k = c .before .before .before .before .before .before .before .sort .ensures .1 in
+    let lq = left-request _ _ _ _ _ _ q _ _ _ a k in
+    let ls = left-settled _ _ _ _ _ _ q _ _ _ a k in
+    let lr = left-rows _ _ _ _ _ _ q _ _ _ a k in
+    let d = c .before .before .divide .ensures in
+    (omega (arith, c .before .before .before .before .before .before .before .before .before .pre .0, rest-less _ _ _ _ _ lq ls lr (q .small) _ _ _ _ _ _ _ d), far-asked _ _ _ _ _ lq ls lr (q .small) _ _ _ _ _ _ _ d _ (left-long _ _ _ _ _ _ q _ _ _ a k))
+
+plan-bring-requires : (t : ℕ) → plan-lts.Need-bring-requires (K-plan t) (plan-at t) plan.Post
+plan-bring-requires t c κs =
+    let q = c .before .before .before .before .before .before .before .before .before .before .before .pre .1 in
+    let a = c .before .before .before .before .before .before .before .before .before .sort .ensures .0 in
+    let k = c .before .before .before .before .before .before .before .before .before .sort .ensures .1 in
+    let lq = left-request _ _ _ _ _ _ q _ _ _ a k in
+    let ls = left-settled _ _ _ _ _ _ q _ _ _ a k in
+    let lr = left-rows _ _ _ _ _ _ q _ _ _ a k in
+    let d = c .before .before .before .before .divide .ensures in
+    let p = c .before .plan .ensures in
+    let h = left-long _ _ _ _ _ _ q _ _ _ a k in
+    (d .half .small, far-long _ _ _ _ _ lq ls lr (q .small) _ _ _ _ _ _ _ d _ _ h p, far-ready _ _ _ _ _ lq ls lr (q .small) _ _ _ _ _ _ _ d _ _ h p, d .half .far-some, d .stands .sub)
+
+plan-less-requires : (t : ℕ) → plan-lts.Need-less-requires (K-plan t) (plan-at t) plan.Post
+plan-less-requires t c κs = search needs
+
+plan-plan-requires-2 : (t : ℕ) → plan-lts.Need-plan-requires-2 (K-plan t) (plan-at t) plan.Post
+plan-plan-requires-2 t c κs =
+    let q = c .before .before .before .before .before .before .before .before .before .before .before .before .before .before .before .pre .1 in
+    let a = c .before .before .before .before .before .before .before .before .before .before .before .before .before .sort .ensures .0 in
+    let k = c .before .before .before .before .before .before .before .before .before .before .before .before .before .sort .ensures .1 in
+    let lq = left-request _ _ _ _ _ _ q _ _ _ a k in
+    let ls = left-settled _ _ _ _ _ _ q _ _ _ a k in
+    let lr = left-rows _ _ _ _ _ _ q _ _ _ a k in
+    let d = c .before .before .before .before .before .before .before .before .divide .ensures in
+    let p = c .before .before .before .before .before .plan .ensures in
+    let h = left-long _ _ _ _ _ _ q _ _ _ a k in
+    (omega (arith, c .before .before .before .before .before .before .before .before .before .before .before .before .before .before .before .pre .0, rest-less _ _ _ _ _ lq ls lr (q .small) _ _ _ _ _ _ _ d), near-asked _ _ _ _ _ lq ls lr (q .small) _ _ _ _ _ _ _ d _ _ h p _ _ (c .before .before .before .bring .ensures) _ (c .before .before .less .ensures))
+
+plan-returns-3 : (t : ℕ) → plan-lts.Need-returns-3 (K-plan t) (plan-at t) plan.Post
+plan-returns-3 t c =
+    let q = c .before .before .before .before .before .before .before .before .before .before .before .before .before .before .before .before .pre .1 in
+    let a = c .before .before .before .before .before .before .before .before .before .before .before .before .before .before .sort .ensures .0 in
+    let k = c .before .before .before .before .before .before .before .before .before .before .before .before .before .before .sort .ensures .1 in
+    let lq = left-request _ _ _ _ _ _ q _ _ _ a k in
+    let ls = left-settled _ _ _ _ _ _ q _ _ _ a k in
+    let lr = left-rows _ _ _ _ _ _ q _ _ _ a k in
+    let d = c .before .before .before .before .before .before .before .before .before .divide .ensures in
+    let p = c .before .before .before .before .before .before .plan .ensures in
+    let h = left-long _ _ _ _ _ _ q _ _ _ a k in
+    let r = both _ _ _ _ _ lq ls lr (q .small) _ _ _ _ _ _ _ d _ _ h p _ _ (c .before .before .before .before .bring .ensures) _ _ (c .before .before .before .less .ensures) (c .plan2 .ensures) in
+    left-all _ _ _ _ _ _ q _ _ _ a k _ (r .0) (r .1)
+
+pub +plan-spec : {M : Type 1} → statement M
++plan-spec = close μ-plan λ t. plan-lts.spec (K-plan t)
+    (plan-at t)
+    plan.Post
+    (plan-sort-requires t)
+    (plan-returns t)
+    (plan-lowest-requires t)
+    (plan-flip-requires t)
+    (plan-cast-single t)
+    (plan-mul-single t)
+    (plan-array-read-single t)
+    (plan-cast-single-2 t)
+    (plan-single-requires t)
+    (plan-returns-2 t)
+    (plan-divide-requires t)
+    (plan-plan-requires t)
+    (plan-bring-requires t)
+    (plan-less-requires t)
+    (plan-plan-requires-2 t)
+    (plan-returns-3 t)

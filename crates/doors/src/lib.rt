@@ -1,0 +1,1 @@
+// Fans through doors in a cube: definitions and theorems, all in specs/.
