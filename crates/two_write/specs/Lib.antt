@@ -1,0 +1,3 @@
+-- Paths of the two-level mesh written into a slice, piece by piece.
+pub mod Walked
+pub mod Blocks
