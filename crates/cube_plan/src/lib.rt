@@ -3,9 +3,8 @@ ghost use mathlib.Core.Path.{_≡_};
 ghost use Prim.Native.Nat.{ℕ, _+_, _-_, _*_, _^_, _<_, _≤_};
 ghost use lib.ListN.{length, getD};
 ghost use Rattle.cube_plan.specs.Plan.{Asked, Planned};
-ghost use Rattle.cube_plan.specs.Fan.{Placed, Written, Spread, Sought, Wanted, Given, path};
-ghost use Rattle.doors.specs.Plain.{Through};
-ghost use Rattle.grid.specs.Grid.{at};
+ghost use Rattle.cube_plan.specs.Fan.{Filled, Turned, Spread, Sought, Given};
+use paths::FILLER;
 
 // Paths from s to the targets of the rows m, in the dimensions `free`, through doors that are not shut.
 pub fn plan(free: u64, s: u64, shut: u64, m: u64, to: [u64; 32], grid: &mut [u64; 1120])
@@ -32,7 +31,7 @@ pub fn plan(free: u64, s: u64, shut: u64, m: u64, to: [u64; 32], grid: &mut [u64
     plan(c.rest, s, c.low | used, near, to, grid);
 }
 
-// ---- the plain fan
+// ---- the fan, written
 
 // The first n dimensions, or rows.
 fn full(n: u32) -> u64
@@ -55,42 +54,43 @@ fn copied(targets: &[u64]) -> [u64; 32]
     to
 }
 
-// What stands at the place p of the path of row j, source first.
-fn place(grid: &[u64; 1120], s: u64, j: usize, p: usize) -> u64
-    requires { ⌜ (j < 32) × (getD (now grid) (j * 35) 0 ≤ 33) ⌝ }
-    ensures { λ r. ⌜ Placed (now (grid .entry)) s j p r ⌝ }
+// The first n places hold the filler.
+fn fill(places: &mut [u64], n: usize)
+    requires { ⌜ n ≤ length (now places) ⌝ }
+    ensures { λ _. ⌜ Filled n (now (places .entry)) (now (places .exit)) ⌝ }
 {
-    if p == 0 {
-        return s;
+    let mut i: usize = 0;
+    while i < n {
+        places[i] = FILLER;
+        i += 1;
     }
-    let n = grid[j * 35] as usize;
-    if n < p {
-        return 18446744073709551615;
-    }
-    grid[j * 35 + 1 + (n - p)]
 }
 
-// Writes the w places of the path of row j.
-fn write(grid: &[u64; 1120], s: u64, w: usize, j: usize, places: &mut [u64])
-    requires { ⌜ (j < 32) × (getD (now grid) (j * 35) 0 ≤ 33) × (j * w + w ≤ length (now places)) ⌝ }
-    ensures { λ _. ⌜ Written (now (grid .entry)) s w j w (now (places .entry)) (now (places .exit)) ⌝ }
+// Writes the n relays of the path of row j after its source, which stands at the place `at`: a row is kept target first.
+fn turn(grid: &[u64; 1120], j: usize, n: usize, at: usize, places: &mut [u64])
+    requires { ⌜ (j < 32) × (n ≤ 33) × (at + n < length (now places)) ⌝ }
+    ensures { λ _. ⌜ Turned (now (grid .entry)) j n at n (now (places .entry)) (now (places .exit)) ⌝ }
 {
     let mut p: usize = 0;
-    while p < w {
-        places[j * w + p] = place(grid, s, j, p);
+    while p < n {
+        places[at + 1 + p] = grid[j * 35 + n - p];
         p += 1;
     }
 }
 
-// Writes the places of the paths of the first k rows, and their hops.
+// Writes the paths of the first k rows, each in w places, and their hops.
 fn spread(grid: &[u64; 1120], s: u64, w: usize, k: usize, places: &mut [u64], counts: &mut [u64])
-    requires { ⌜ (k ≤ 32) × ((j : ℕ) → j < k → getD (now grid) (j * 35) 0 ≤ 33) × (k * w ≤ length (now places)) × (k ≤ length (now counts)) ⌝ }
-    ensures { λ _. ⌜ Spread (now (grid .entry)) s w k (now (places .entry)) (now (places .exit)) (now (counts .entry)) (now (counts .exit)) ⌝ }
+    requires { ⌜ (k ≤ 32) × ((j : ℕ) → j < k → (getD (now grid) (j * 35) 0 < w) × (getD (now grid) (j * 35) 0 ≤ 33)) × (k * w ≤ length (now places)) × (k ≤ length (now counts)) ⌝ }
+    ensures { λ _. ⌜ Spread (now (grid .entry)) s w k k (now (places .entry)) (now (places .exit)) (now (counts .entry)) (now (counts .exit)) ⌝ }
 {
+    fill(places, k * w);
     let mut j: usize = 0;
     while j < k {
-        write(grid, s, w, j, places);
-        counts[j] = grid[j * 35];
+        let n = grid[j * 35];
+        let at = j * w;
+        turn(grid, j, n as usize, at, places);
+        places[at] = s;
+        counts[j] = n;
         j += 1;
     }
 }
@@ -106,20 +106,11 @@ pub fn fan_through(
     counts: &mut [u64],
 )
     requires { ⌜ Sought n s shut (now targets) (now places) (now counts) ⌝ }
-    ensures { λ _. ⌜ Given n s (now (targets .entry)) (now (places .entry)) (now (counts .entry)) (now (places .exit)) (now (counts .exit)) ⌝ }
-    ensures { λ _. ⌜ Through n s shut (length (now (targets .entry))) (at (now (targets .entry))) (path n (now (places .exit)) (now (counts .exit))) ⌝ }
+    ensures { λ _. ⌜ Given n s shut (now (targets .entry)) (now (places .entry)) (now (counts .entry)) (now (places .exit)) (now (counts .exit)) ⌝ }
 {
     let k = targets.len();
     let to = copied(targets);
     let mut grid = [0u64; 1120];
     plan(full(n), s, shut, full(k as u32), to, &mut grid);
     spread(&grid, s, n as usize + 2, k, places, counts);
-}
-
-// The plain fan: no door is shut.
-pub fn fan(n: u32, s: u64, targets: &[u64], places: &mut [u64], counts: &mut [u64])
-    requires { ⌜ Wanted n s (now targets) (now places) (now counts) ⌝ }
-    ensures { λ _. ⌜ Given n s (now (targets .entry)) (now (places .entry)) (now (counts .entry)) (now (places .exit)) (now (counts .exit)) ⌝ }
-{
-    fan_through(n, s, 0, targets, places, counts);
 }

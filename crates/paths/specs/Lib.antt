@@ -2,6 +2,7 @@
 pub mod Mesh
 pub mod Fan
 pub mod Finding
+pub mod Lists
 pub mod Clear
 pub mod Judged
 pub mod Whole

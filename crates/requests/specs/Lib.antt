@@ -1,2 +1,3 @@
 -- A request's faults.
 pub mod Request
+pub mod Sound
