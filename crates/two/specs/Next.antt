@@ -1,0 +1,44 @@
+-- The next hop and the plain route. While blocks differ, the slot walks to the place of a differing block bit (`crossing`) and crosses
+-- there; when they agree, it walks to the target's. A slot walks by its lowest bit that differs.
+use Prim.Native.Nat.{ℕ, _+_, _^_}
+use mathlib.Core.List.{List}
+use lib.Bits.{bitXor}
+use lib.Count.{trailingZeros}
+use lib.Dec.{eqb}
+use Rattle.bits.specs.Bit.{flip}
+use Rattle.scan.specs.Scan.{pick}
+use Rattle.paths.specs.Mesh.{width}
+use Rattle.paths.specs.Walk as walk
+use Rattle.two.specs.Two.{blockOf, slotOf, relay, two}
+
+-- of the bits in which two blocks differ, the one to correct first: the order of block bits is this definition's alone
+unfoldable pub crossing : (m x : ℕ) → ℕ
+crossing m x = trailingZeros (2 ^ m) x
+
+-- the slot after p on the way to q in one block
+unfoldable pub toward : (m p q : ℕ) → ℕ
+toward m p q = pick (eqb p q) p (flip p (trailingZeros m (bitXor p q)))
+
+-- the slot to walk to, from block b towards block c, slot q
+unfoldable pub heading : (m b c q : ℕ) → ℕ
+heading m b c q = pick (eqb b c) q (crossing m (bitXor b c))
+
+-- the block and the slot after block b, slot p on the way to block c, slot q
+unfoldable pub nextBlock : (m b p c q : ℕ) → ℕ
+nextBlock m b p c q = pick (eqb b c) b (pick (eqb p (heading m b c q)) (flip b p) b)
+
+unfoldable pub nextSlot : (m b p c q : ℕ) → ℕ
+nextSlot m b p c q = toward m p (heading m b c q)
+
+-- the relay after u on the way to t
+unfoldable pub next : (m u t : ℕ) → ℕ
+next m u t =
+    relay m (nextBlock m (blockOf m u) (slotOf m u) (blockOf m t) (slotOf m t))
+    (nextSlot m (blockOf m u) (slotOf m u) (blockOf m t) (slotOf m t))
+
+-- the number of next-hop steps from s to t, and the relays on the way, s the first
+unfoldable pub hops : (m s t : ℕ) → ℕ
+hops m s t = walk.hops (width (two m)) (next m) s t
+
+unfoldable pub route : (m s t : ℕ) → List ℕ
+route m s t = walk.route (next m) s t (hops m s t)

@@ -1,0 +1,223 @@
+-- One hop of the plain route, and the route. A hop changes one slot bit towards the heading, or crosses (`step`); so it is a link
+-- (`next-linked`) and stays in the mesh (`next-below`). Each hop brings the rank down (`next-less`), so every walk arrives, after at most
+-- m * 2 ^ m + 2 ^ m + m hops (`walk-arrives`, `hops-bound`). Of `crossing` only `crossing-bit` is used. Assumes nothing.
+use Prim.Native.Nat.{ℕ, zero, suc, _+_, _*_, _^_, _≤_, _<_}
+use mathlib.Core.Path.{_≡_, refl, sym, ap, ap₂, _∙_, subst}
+use mathlib.Core.Bool.{Bool, true, false}
+use mathlib.Core.Logic.{_⊎_, inl, inr, ⊎-elim, _≢_}
+use native.Mathlib.Nat.{mul-le-mul-right, mul-add, add-mul, suc-mul, mul-comm}
+use native.Mathlib.Omega.{arith}
+use native.Mathlib.Decide.{ℕ-discrete}
+use lib.Bits.{bitXor, xor-lt}
+use lib.Count.{ones, ones-le, trailingZeros}
+use lib.Dec.{eqb}
+use borrow.Author.Tests.{eq-eqb, ne-eqb}
+use Rattle.bits.specs.Bit.{bit, flip}
+use Rattle.bits.specs.Laws.{trailing-lowest, xor-zero-eq, flip-lt, flip-xor, ones-clear}
+use Rattle.scan.specs.Scan.{pick}
+use Rattle.paths.specs.Mesh.{width}
+use Rattle.paths.specs.Walk.{node, Arrives}
+use Rattle.paths.specs.Walks.{hops-is}
+use Rattle.two.specs.Two.{slots, blocks, relays, longest, blockOf, slotOf, relay, linked, two}
+use Rattle.two.specs.Next.{crossing, toward, heading, nextBlock, nextSlot, next, hops}
+use Rattle.two.specs.Digits.{bit-below}
+use Rattle.two.specs.Parts.{block-relay, slot-relay, relay-parts, relay-below, block-below, slot-below, same-parts}
+use Rattle.two.specs.Links.{Link, link-linked, link-within}
+use Rattle.two.specs.Ends.{walk-ends, node-keeps}
+
+-- ---- what is used of the choice of the block bit
+
+-- it is a bit in which the blocks differ
+pub crossing-bit : (m x : ℕ) → x ≢ 0 → x < blocks m → (crossing m x < slots m) × (bit (crossing m x) x ≡ 1)
+unfolding crossing
+crossing-bit m x ne h = let low = trailing-lowest (2 ^ m) x ne h in (low .within, low .set)
+
+-- ---- one hop, by blocks and slots
+
+module _ (m b p c q : ℕ) (hb : b < blocks m) (hp : p < slots m) (hc : c < blocks m) (hq : q < slots m) where
+  abbrev h : ℕ
+  h = heading m b c q
+
+  xor-some : b ≢ c → bitXor b c ≢ 0
+  xor-some ne e = ne (xor-zero-eq b c e)
+
+  heading-same : b ≡ c → heading m b c q ≡ q
+  unfolding heading
+  heading-same e = ap (λ (x : Bool). pick x q (crossing m (bitXor b c))) (eq-eqb b c e)
+
+  heading-other : b ≢ c → heading m b c q ≡ crossing m (bitXor b c)
+  unfolding heading
+  heading-other ne = ap (λ (x : Bool). pick x q (crossing m (bitXor b c))) (ne-eqb b c ne)
+
+  pub heading-below : heading m b c q < slots m
+  heading-below = go (ℕ-discrete b c)
+    where
+      go : Dec (b ≡ c) → h < slots m
+      go (yes e) = rw (heading-same e) hq
+      go (no ne) = rw (heading-other ne) (crossing-bit m (bitXor b c) (xor-some ne) (xor-lt (2 ^ m) b c hb hc) .0)
+
+  -- a hop: none, where it is the target; along a slot bit that is not the heading's; or across, where the blocks differ in the slot's bit
+  abbrev pub Step : Type 0
+  Step =
+      ((b ≡ c) × (p ≡ q) × (nextBlock m b p c q ≡ b) × (nextSlot m b p c q ≡ p))
+      ⊎ (((nextBlock m b p c q ≡ b) × ((d : ℕ) × (d < m) × (bit d (bitXor p (heading m b c q)) ≡ 1) × (nextSlot m b p c q ≡ flip p d)))
+      ⊎ ((b ≢ c) × (bit p (bitXor b c) ≡ 1) × (nextBlock m b p c q ≡ flip b p) × (nextSlot m b p c q ≡ p)))
+
+  block-there : b ≡ c → nextBlock m b p c q ≡ b
+  unfolding nextBlock
+  block-there e = ap (λ (x : Bool). pick x b (pick (eqb p h) (flip b p) b)) (eq-eqb b c e)
+
+  block-cross : b ≢ c → p ≡ h → nextBlock m b p c q ≡ flip b p
+  unfolding nextBlock
+  block-cross ne e = ap₂ (λ (x y : Bool). pick x b (pick y (flip b p) b)) (ne-eqb b c ne) (eq-eqb p h e)
+
+  block-stay : p ≢ h → nextBlock m b p c q ≡ b
+  unfolding nextBlock
+  block-stay ne = ap (λ (y : Bool). pick (eqb b c) b (pick y (flip b p) b)) (ne-eqb p h ne) ∙ either (eqb b c)
+    where
+      either : (x : Bool) → pick x b b ≡ b
+      either true = refl
+      either false = refl
+
+  slot-there : p ≡ h → nextSlot m b p c q ≡ p
+  unfolding nextSlot toward
+  slot-there e = ap (λ (x : Bool). pick x p (flip p (trailingZeros m (bitXor p h)))) (eq-eqb p h e)
+
+  slot-moves : p ≢ h → nextSlot m b p c q ≡ flip p (trailingZeros m (bitXor p h))
+  unfolding nextSlot toward
+  slot-moves ne = ap (λ (x : Bool). pick x p (flip p (trailingZeros m (bitXor p h)))) (ne-eqb p h ne)
+
+  pub step : Step
+  step = go (ℕ-discrete p h) (ℕ-discrete b c)
+    where
+      go : Dec (p ≡ h) → Dec (b ≡ c) → Step
+      go (yes e) (yes z) = inl (z, e ∙ heading-same z, block-there z, slot-there e)
+      go (yes e) (no ne) =
+          inr (inr (ne, ap (λ (x : ℕ). bit x (bitXor b c)) (e ∙ heading-other ne) ∙ crossing-bit m (bitXor b c) (xor-some ne) (xor-lt (2 ^ m) b c hb hc) .1, block-cross ne e, slot-there e))
+      go (no ne) d =
+          let low = trailing-lowest m (bitXor p h) (λ z. ne (xor-zero-eq p h z)) (xor-lt m p h hp heading-below) in
+          inr (inl (block-stay ne, (trailingZeros m (bitXor p h), low .within, low .set, slot-moves ne)))
+
+  pub step-link : ((b ≡ c) × (p ≡ q) → ⊥) → Link m b p (nextBlock m b p c q) (nextSlot m b p c q)
+  step-link far = go step
+    where
+      go : Step → Link m b p (nextBlock m b p c q) (nextSlot m b p c q)
+      go (inl (x, y, z, w)) = absurd (far (x, y))
+      go (inr (inl (x, (d, l, o, z)))) = inl (sym x, (d, l, z))
+      go (inr (inr (ne, o, x, y))) = inr (sym y, x)
+
+  pub step-within : (nextBlock m b p c q < blocks m) × (nextSlot m b p c q < slots m)
+  step-within = go step
+    where
+      go : Step → (nextBlock m b p c q < blocks m) × (nextSlot m b p c q < slots m)
+      go (inl (x, y, z, w)) = (subst (λ (v : ℕ). v < blocks m) (sym z) hb, subst (λ (v : ℕ). v < slots m) (sym w) hp)
+      go (inr (inl (x, (d, l, o, z)))) = link-within m b p (nextBlock m b p c q) (nextSlot m b p c q) (inl (sym x, (d, l, z))) hb hp
+      go (inr (inr (ne, o, x, y))) = link-within m b p (nextBlock m b p c q) (nextSlot m b p c q) (inr (sym y, x)) hb hp
+
+-- how far it is, at most
+unfoldable pub rank : (m b p c q : ℕ) → ℕ
+rank m b p c q = ones (bitXor b c) * (m + 1) + ones (bitXor p (heading m b c q))
+
+module _ (m b p c q : ℕ) (hb : b < blocks m) (hp : p < slots m) (hc : c < blocks m) (hq : q < slots m) where
+  slot-far : ones (bitXor p (heading m b c q)) ≤ m
+  slot-far = ones-le m (bitXor p (heading m b c q)) (xor-lt m p (heading m b c q) hp (heading-below m b p c q hb hp hc hq))
+
+  pub rank-bound : rank m b p c q ≤ m * 2 ^ m + 2 ^ m + m
+  unfolding rank
+  rank-bound =
+      omega (arith, slot-far, mul-le-mul-right (m + 1) (ones-le (2 ^ m) (bitXor b c) (xor-lt (2 ^ m) b c hb hc)), mul-add (2 ^ m) m 1, mul-comm m (2 ^ m))
+
+-- along a slot bit
+rank-slot : (m b p c q d : ℕ) → bit d (bitXor p (heading m b c q)) ≡ 1 → rank m b (flip p d) c q < rank m b p c q
+unfolding rank
+rank-slot m b p c q d o =
+    omega (arith, ap ones (flip-xor p d (heading m b c q)), ones-clear d (bitXor p (heading m b c q)) o)
+
+-- across
+rank-cross : (m b p c q : ℕ) → b < blocks m → p < slots m → c < blocks m → q < slots m → bit p (bitXor b c) ≡ 1 → rank m (flip b p) p c q < rank m b p c q
+unfolding rank
+rank-cross m b p c q hb hp hc hq o =
+    let fewer : ones (bitXor (flip b p) c) + 1 ≡ ones (bitXor b c) = ap (λ (x : ℕ). ones x + 1) (flip-xor b p c) ∙ ones-clear p (bitXor b c) o in
+    let times = ap (λ (x : ℕ). x * (m + 1)) fewer in
+    omega (arith, times, add-mul (ones (bitXor (flip b p) c)) 1 (m + 1), slot-far m (flip b p) p c q (flip-lt (2 ^ m) b p hb hp) hp hc hq)
+
+pub rank-less : (m b p c q : ℕ) → b < blocks m → p < slots m → c < blocks m → q < slots m → ((b ≡ c) × (p ≡ q) → ⊥)
+    → rank m (nextBlock m b p c q) (nextSlot m b p c q) c q < rank m b p c q
+rank-less m b p c q hb hp hc hq far = go (step m b p c q hb hp hc hq)
+  where
+    go : Step m b p c q hb hp hc hq → rank m (nextBlock m b p c q) (nextSlot m b p c q) c q < rank m b p c q
+    go (inl (x, y, z, w)) = absurd (far (x, y))
+    go (inr (inl (x, (d, l, o, z)))) = rw (x, z) (rank-slot m b p c q d o)
+    go (inr (inr (ne, o, x, y))) = rw (x, y) (rank-cross m b p c q hb hp hc hq o)
+
+-- ---- of relays by number
+
+module _ (m t : ℕ) (ht : t < relays m) where
+  abbrev c : ℕ
+  c = blockOf m t
+
+  abbrev q : ℕ
+  q = slotOf m t
+
+  module _ (u : ℕ) (hu : u < relays m) where
+    abbrev nb : ℕ
+    nb = nextBlock m (blockOf m u) (slotOf m u) c q
+
+    abbrev np : ℕ
+    np = nextSlot m (blockOf m u) (slotOf m u) c q
+
+    within : (nb < blocks m) × (np < slots m)
+    within = step-within m (blockOf m u) (slotOf m u) c q (block-below m u hu) (slot-below m u) (block-below m t ht) (slot-below m t)
+
+    pub next-block : blockOf m (next m u t) ≡ nextBlock m (blockOf m u) (slotOf m u) (blockOf m t) (slotOf m t)
+    unfolding next
+    next-block = block-relay m nb np (within .1)
+
+    pub next-slot : slotOf m (next m u t) ≡ nextSlot m (blockOf m u) (slotOf m u) (blockOf m t) (slotOf m t)
+    unfolding next
+    next-slot = slot-relay m nb np (within .1)
+
+    pub next-below : next m u t < relays m
+    unfolding next
+    next-below = relay-below m nb np (within .0) (within .1)
+
+    apart : u ≢ t → (blockOf m u ≡ c) × (slotOf m u ≡ q) → ⊥
+    apart ne (x, y) = ne (same-parts m u t x y)
+
+    pub next-linked : u ≢ t → linked m u (next m u t) ≡ true
+    next-linked ne =
+        link-linked m u (next m u t)
+        (rw (next-block, next-slot) (step-link m (blockOf m u) (slotOf m u) c q (block-below m u hu) (slot-below m u) (block-below m t ht) (slot-below m t) (apart ne)))
+
+    pub next-less : u ≢ t → rank m (blockOf m (next m u t)) (slotOf m (next m u t)) c q < rank m (blockOf m u) (slotOf m u) c q
+    next-less ne =
+        rw (next-block, next-slot)
+        (rank-less m (blockOf m u) (slotOf m u) c q (block-below m u hu) (slot-below m u) (block-below m t ht) (slot-below m t) (apart ne))
+
+  -- the target is its own next hop
+  pub next-there : next m t t ≡ t
+  unfolding next
+  next-there =
+      let hc = block-below m t ht in
+      let hq = slot-below m t in
+      ap₂ (relay m) (block-there m c q c q hc hq hc hq refl) (slot-there m c q c q hc hq hc hq (sym (heading-same m c q c q hc hq hc hq refl)))
+      ∙ relay-parts m t
+
+  pub node-below : (s k : ℕ) → s < relays m → node (next m) s t k < relays m
+  node-below s k h = node-keeps (next m) t (λ u. u < relays m) (λ u l. next-below u l) s k h
+
+  pub walk-arrives : (s : ℕ) → s < relays m → (k : ℕ) × (k ≤ m * 2 ^ m + 2 ^ m + m) × Arrives (next m) s t k
+  walk-arrives s h =
+      walk-ends (next m) t (λ u. u < relays m) (λ u. rank m (blockOf m u) (slotOf m u) c q) (λ u l. next-below u l) (λ u l ne. next-less u l ne)
+      (m * 2 ^ m + 2 ^ m + m) s h (rank-bound m (blockOf m s) (slotOf m s) c q (block-below m s h) (slot-below m s) (block-below m t ht) (slot-below m t))
+
+  -- the hop count is the number of steps needed to arrive
+  pub hops-arrive : (s : ℕ) → s < relays m → Arrives (next m) s t (hops m s t)
+  unfolding hops
+  hops-arrive s h =
+      let (k, l, a) = walk-arrives s h in
+      subst (λ (n : ℕ). Arrives (next m) s t n) (sym (hops-is (next m) s t (width (two m)) k (omega arith) a)) a
+
+  pub hops-bound : (s : ℕ) → s < relays m → hops m s t ≤ m * 2 ^ m + 2 ^ m + m
+  unfolding hops
+  hops-bound s h = let (k, l, a) = walk-arrives s h in subst (λ (n : ℕ). n ≤ m * 2 ^ m + 2 ^ m + m) (sym (hops-is (next m) s t (width (two m)) k (omega arith) a)) l

@@ -1,0 +1,39 @@
+-- What the routines of the two-level mesh tell: refusals 1, 2, 5, 8 in this order, or the value. A routine that takes a block and a slot tells what
+-- the one that takes a relay's number tells of `named`: a part out of range is a relay out of range.
+use Prim.Native.Nat.{ℕ, _+_}
+use mathlib.Core.Bool.{Bool, false, not}
+use mathlib.Core.List.{List, _++_}
+use mathlib.Core.Option.{Option}
+use lib.Dec.{leb}
+use lib.ListN.{length, drop}
+use Rattle.answers.specs.Told.{Told, tell, leaves}
+use Rattle.answers.specs.Order.{first, sizeFaults, pairFaults}
+use Rattle.answers.specs.declared.Refusal.{Refusal}
+use Rattle.two.specs.Two.{known, relays, blockOf, slotOf, linked}
+use Rattle.two.specs.Next.{next, hops, route}
+use Rattle.two.specs.Seen.{seen}
+
+-- what stands against a source and a target
+unfoldable pub faults : (m s t : ℕ) (room : Bool) → Option Refusal
+faults m s t room = first (pairFaults (not (known m)) false (relays m) s t room)
+
+-- a fact of the order
+unfoldable pub factTold : (m value : ℕ) → Told ℕ
+factTold m value = tell (first (sizeFaults (not (known m)))) 0 value
+
+unfoldable pub linkedTold : (m s t : ℕ) → Told Bool
+linkedTold m s t = tell (faults m s t false) false (linked m s t)
+
+unfoldable pub nextTold : (m s t : ℕ) → Told ℕ
+nextTold m s t = tell (faults m s t false) 0 (next m s t)
+
+unfoldable pub seenTold : (m s t : ℕ) → Told ℕ
+seenTold m s t = tell (faults m s t false) 0 (seen m s t)
+
+-- the hops, where n places are lent
+unfoldable pub routeTold : (m s t n : ℕ) → Told ℕ
+routeTold m s t n = tell (faults m s t (leb n (hops m s t))) 0 (hops m s t)
+
+-- what the lent slice holds afterwards
+unfoldable pub routeLeaves : (m s t : ℕ) (out : List ℕ) → List ℕ
+routeLeaves m s t out = leaves (faults m s t (leb (length out) (hops m s t))) out (route m s t ++ drop (hops m s t + 1) out)
