@@ -10,7 +10,10 @@ ghost use Rattle.two.specs.Next as next;
 ghost use Rattle.two.specs.Seen as view;
 ghost use Rattle.two.specs.Told.{faults, factTold, linkedTold, nextTold, routeTold, routeLeaves, seenTold};
 ghost use Rattle.two.specs.Post.{Placed};
-use answers::{Answer, Checked, Refusal, YesNo};
+use answers::Answer;
+use answers::Checked;
+use answers::Refusal;
+use answers::YesNo;
 
 // The order of a mesh: 1 to 5, and the facts that go with it.
 pub struct Order(pub u64);
@@ -38,6 +41,7 @@ fn pow(k: u64) -> u64
 
 impl Order {
     pub const LEAST: u64 = 1;
+
     pub const MOST: u64 = 5;
 
     // Whether it is an order that is served: 1 to 5.

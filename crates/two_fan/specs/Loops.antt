@@ -12,7 +12,7 @@ use Rattle.bits.specs.Laws.{bit-cases, bit-none, bit-xor, differ-self, flip-oth
 use Rattle.doors.specs.Doors.{In, Fresh, Walk}
 use Rattle.doors.specs.Paths.{same-or, not-cons}
 use Rattle.doors.specs.Masks.{ones-add, bit-or}
-use Rattle.doors.specs.Plain.{last, bit-full, bit-high, full-below}
+use Rattle.doors.specs.Plain.{bit-full, bit-high, full-below}
 use Rattle.doors.specs.Single.{rank, rank-less, rank-le}
 use Rattle.doors.specs.Choose.{Chosen, Used, cleared, or-on, or-left, or-right, ones-or}
 use Rattle.doors.specs.Loops.{Plus}
@@ -141,14 +141,6 @@ crosses-more m b p g q e (c ∷ r) l w k s = (
   crosses-more m c (k .0) g q e r (k .2) w (k .5) s,
   ap (λ (y : List Relay). y ++ inside (flip g q) (q ∷ w)) (k .6) ∙ append-assoc (inside c (p ∷ k .1)) (k .2) (inside (flip g q) (q ∷ w)),
 )
-
-pub crosses-last : (m b p g q : ℕ) (r : List ℕ) (l : List Relay) → Crosses m b p g q r l → last b r ≡ g
-crosses-last m b p g q [] l k = k .0
-crosses-last m b p g q (c ∷ r) l k = crosses-last m c (k .0) g q r (k .2) (k .5)
-
-pub walk-last : (free u t : ℕ) (l : List ℕ) → Walk free u t l → last u l ≡ t
-walk-last free u t [] w = w
-walk-last free u t (v ∷ l) w = walk-last free v t l (w .3)
 
 -- the hop after the first i of a walk
 pub walk-hop : (free u t i : ℕ) (l : List ℕ) → Walk free u t l → i < length l → (d : ℕ) × (bit d free ≡ 1) × (getD l i 0 ≡ flip (getD (u ∷ l) i 0) d)

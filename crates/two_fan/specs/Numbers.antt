@@ -1,19 +1,20 @@
--- Relays as numbers, block · 2^m + slot, as programs have them: the fan over numbers (`numbers-fan`, `planned`). Assumes nothing.
+-- Relays as numbers, block · 2^m + slot, as programs have them: the fan over numbers (`numbers-fan`). Assumes nothing.
 use Prim.Native.Nat.{ℕ, suc, _+_, _*_, _/_, _%_, _^_, _≤_, _<_}
 use mathlib.Core.Path.{_≡_, refl, sym, ap, ap₂, _∙_, subst}
 use mathlib.Core.Logic.{inl, inr, _≢_}
 use mathlib.Core.List.{List, [], _∷_, _++_}
 use native.Mathlib.Nat.{mod-lt, div-add-mod', div-lt-iff-lt-mul}
 use lib.Arith.{digits-lt, digits-div, digits-mod}
-use lib.ListN.{length}
+use lib.ListN.{length, getD}
 use lib.Pow.{pow-pos, pow-add}
 use Rattle.bits.specs.Bit.{flip}
 use Rattle.doors.specs.Doors.{In, Fresh}
-use Rattle.doors.specs.Plain.{last}
+use Rattle.paths.specs.Lists as lists
+use Rattle.two.specs.Two.{two, relays}
+use Rattle.two.specs.Links.{link-linked}
 use Rattle.two_fan.specs.Relays.{Relay, On, Once, Link, Chain, link-within}
 use Rattle.two_fan.specs.Assemble.{most, TwoFan}
 use Rattle.two_fan.specs.Sort.{Ask}
-use Rattle.two_fan.specs.Whole.{every-fan}
 
 -- the number of a relay, and the relay of a number
 abbrev pub number : ℕ → Relay → ℕ
@@ -29,25 +30,6 @@ abbrev pub numbers : ℕ → List Relay → List ℕ
 numbers m [] = []
 numbers m (r ∷ l) = number m r ∷ numbers m l
 
--- how many relays there are
-abbrev pub size : ℕ → ℕ
-size m = 2 ^ (2 ^ m + m)
-
--- two relays are linked
-abbrev pub Linked : ℕ → ℕ → ℕ → Type 0
-Linked m u v = Link m (block m u) (slot m u) (block m v) (slot m v)
-
-abbrev pub Hops : ℕ → ℕ → List ℕ → Type 0
-Hops m u [] = Unit
-Hops m u (v ∷ l) = Linked m u v × (v < size m) × Hops m v l
-
-pub record Fan (m s k : ℕ) (to : ℕ → ℕ) (paths : ℕ → List ℕ) : Type 0 where
-  pub hops : (j : ℕ) → j < k → Hops m s (paths j)
-  pub ends : (j : ℕ) → j < k → last s (paths j) ≡ to j
-  pub short : (j : ℕ) → j < k → length (paths j) ≤ most m
-  pub fresh : (j : ℕ) → j < k → Fresh (s ∷ paths j)
-  pub apart : (i j : ℕ) → i < k → j < k → i ≢ j → (x : ℕ) → In x (paths i) → In x (paths j) → ⊥
-
 -- ---- laws
 
 pub block-number : (m : ℕ) (r : Relay) → r .1 < 2 ^ m → block m (number m r) ≡ r .0
@@ -59,10 +41,10 @@ slot-number m r h = digits-mod (r .0) h
 pub number-back : (m x : ℕ) → number m (block m x, slot m x) ≡ x
 number-back m x = div-add-mod' x (2 ^ m)
 
-pub number-below : (m : ℕ) (r : Relay) → r .1 < 2 ^ m → r .0 < 2 ^ (2 ^ m) → number m r < size m
+pub number-below : (m : ℕ) (r : Relay) → r .1 < 2 ^ m → r .0 < 2 ^ (2 ^ m) → number m r < relays m
 number-below m r h g = subst (λ (y : ℕ). number m r < y) (sym (pow-add 2 (2 ^ m) m)) (digits-lt g h)
 
-pub block-below : (m x : ℕ) → x < size m → block m x < 2 ^ (2 ^ m)
+pub block-below : (m x : ℕ) → x < relays m → block m x < 2 ^ (2 ^ m)
 block-below m x h = div-lt-iff-lt-mul (pow-pos m) .1 (subst (λ (y : ℕ). x < y) (pow-add 2 (2 ^ m) m) h)
 
 pub slot-below : (m x : ℕ) → slot m x < 2 ^ m
@@ -99,33 +81,37 @@ link-cast m b p c q b' p' c' q' eb ep ec eq (inl (e, (h, l, f))) = inl (eb ∙ e
 link-cast m b p c q b' p' c' q' eb ep ec eq (inr (e, f)) = inr (ep ∙ e ∙ sym eq, ec ∙ f ∙ ap₂ flip (sym eb) (sym ep))
 
 -- a chain of relays, as numbers
-pub chain-numbers : (m b p c q u : ℕ) (l : List Relay) → Chain m b p c q l → p < 2 ^ m → b < 2 ^ (2 ^ m) → block m u ≡ b → slot m u ≡ p
-    → Hops m u (numbers m l) × (block m (last u (numbers m l)) ≡ c) × (slot m (last u (numbers m l)) ≡ q) × Slots m l
-chain-numbers m b p c q u [] k hp hb eb ep = (tt, eb ∙ k .0, ep ∙ k .1, tt)
-chain-numbers m b p c q u (r ∷ l) k hp hb eb ep =
+pub chain-numbers : (m b p c q u t : ℕ) (l : List Relay) → Chain m b p c q l → p < 2 ^ m → b < 2 ^ (2 ^ m) → block m u ≡ b → slot m u ≡ p → t ≡ number m (c, q)
+    → lists.Chain (two m) u t (numbers m l) × Slots m l
+chain-numbers m b p c q u t [] k hp hb eb ep e =
+    (sym (number-back m u) ∙ ap₂ (λ (x y : ℕ). x * 2 ^ m + y) (eb ∙ k .0) (ep ∙ k .1) ∙ sym e, tt)
+chain-numbers m b p c q u t (r ∷ l) k hp hb eb ep e =
     let w = link-within m b p (r .0) (r .1) (k .0) hp hb in
     let bn = block-number m r (w .0) in
     let sn = slot-number m r (w .0) in
-    let rest = chain-numbers m (r .0) (r .1) c q (number m r) l (k .1) (w .0) (w .1) bn sn in
-    ((link-cast m b p (r .0) (r .1) (block m u) (slot m u) (block m (number m r)) (slot m (number m r)) eb ep bn sn (k .0), number-below m r (w .0) (w .1), rest .0), rest .1, rest .2, (w .0, rest .3))
+    let rest = chain-numbers m (r .0) (r .1) c q (number m r) t l (k .1) (w .0) (w .1) bn sn e in
+    let link = link-linked m u (number m r) (link-cast m b p (r .0) (r .1) (block m u) (slot m u) (block m (number m r)) (slot m (number m r)) eb ep bn sn (k .0)) in
+    ((number-below m r (w .0) (w .1), link, rest .0), (w .0, rest .1))
 
-pub numbers-fan : (m s k : ℕ) (to : ℕ → ℕ) (paths : ℕ → List Relay) → s < size m → TwoFan m (block m s) (slot m s) k (λ j. block m (to j)) (λ j. slot m (to j)) paths
-    → Fan m s k to (λ j. numbers m (paths j))
-numbers-fan m s k to paths h f =
-    let chain : (j : ℕ) → j < k → Hops m s (numbers m (paths j)) × (block m (last s (numbers m (paths j))) ≡ block m (to j)) × (slot m (last s (numbers m (paths j))) ≡ slot m (to j)) × Slots m (paths j) =
-    λ j l. chain-numbers m (block m s) (slot m s) (block m (to j)) (slot m (to j)) s (paths j) (f .chain j l) (slot-below m s) (block-below m s h) refl refl in record {
-      hops = λ j l. chain j l .0;
-      ends = λ j l. let c = chain j l in
-          sym (number-back m (last s (numbers m (paths j)))) ∙ ap₂ (λ (x y : ℕ). x * 2 ^ m + y) (c .1) (c .2) ∙ number-back m (to j);
+-- the fan over numbers
+pub numbers-fan : (m s : ℕ) (targets : List ℕ) (paths : ℕ → List Relay) → s < relays m
+    → TwoFan m (block m s) (slot m s) (length targets) (λ j. block m (getD targets j 0)) (λ j. slot m (getD targets j 0)) paths
+    → lists.Lists (two m) s targets (λ j. numbers m (paths j))
+numbers-fan m s targets paths h f =
+    let k : ℕ = length targets in
+    let chain : (j : ℕ) → j < k → lists.Chain (two m) s (getD targets j 0) (numbers m (paths j)) × Slots m (paths j) =
+    λ j l. chain-numbers m (block m s) (slot m s) (block m (getD targets j 0)) (slot m (getD targets j 0)) s (getD targets j 0) (paths j) (f .chain j l)
+    (slot-below m s) (block-below m s h) refl refl (sym (number-back m (getD targets j 0))) in record {
+      chain = λ j l. chain j l .0;
       short = λ j l. subst (λ (y : ℕ). y ≤ most m) (sym (length-numbers m (paths j))) (f .short j l);
       fresh = λ j l. let o = f .once j l in
-          ((λ g. o .0 (in-numbers m s (paths j) (chain j l .3) g)), fresh-numbers m (paths j) (chain j l .3) (o .1));
-      apart = λ i j l g ne x p q. f .apart i j l g ne (block m x) (slot m x) (in-numbers m x (paths i) (chain i l .3) p) (in-numbers m x (paths j) (chain j g .3) q);
+          ((λ g. o .0 (in-numbers m s (paths j) (chain j l .1) g)), fresh-numbers m (paths j) (chain j l .1) (o .1));
+      apart = λ i j l g ne x p q. f .apart i j l g ne (block m x) (slot m x) (in-numbers m x (paths i) (chain i l .1) p) (in-numbers m x (paths j) (chain j g .1) q);
     }
 
 -- ---- the theorem over numbers
 
-pub ask-numbers : (m s k : ℕ) (to : ℕ → ℕ) → k ≤ m + 1 → s < size m → ((j : ℕ) → j < k → to j < size m) → ((j : ℕ) → j < k → to j ≢ s)
+pub ask-numbers : (m s k : ℕ) (to : ℕ → ℕ) → k ≤ m + 1 → s < relays m → ((j : ℕ) → j < k → to j < relays m) → ((j : ℕ) → j < k → to j ≢ s)
     → ((i j : ℕ) → i < k → j < k → i ≢ j → to i ≢ to j) → Ask m (block m s) (slot m s) k (λ j. block m (to j)) (λ j. slot m (to j))
 ask-numbers m s k to few hs ht other differ = record {
   few = few;
@@ -139,9 +125,3 @@ ask-numbers m s k to few hs ht other differ = record {
   where
     same : (x y : ℕ) → block m x ≡ block m y → slot m x ≡ slot m y → x ≡ y
     same x y e f = sym (number-back m x) ∙ ap₂ (λ (a b : ℕ). a * 2 ^ m + b) e f ∙ number-back m y
-
-pub planned : (m s k : ℕ) (to : ℕ → ℕ) → 1 ≤ m → k ≤ m + 1 → s < size m → ((j : ℕ) → j < k → to j < size m) → ((j : ℕ) → j < k → to j ≢ s)
-    → ((i j : ℕ) → i < k → j < k → i ≢ j → to i ≢ to j) → (paths : ℕ → List ℕ) × Fan m s k to paths
-planned m s k to order few hs ht other differ =
-    let f = every-fan m (block m s) (slot m s) k (λ j. block m (to j)) (λ j. slot m (to j)) order (ask-numbers m s k to few hs ht other differ) in
-    ((λ j. numbers m (f .0 j)), numbers-fan m s k to (f .0) hs (f .1))

@@ -11,12 +11,13 @@ use lib.ListN.{length, getD, take, set, length-append, length-take}
 use lib.Seq.{sets, length-sets, take-suc}
 use lib.Bits.{bitXor}
 use lib.Pow.{pow-mono, pow-add}
-use Rattle.bits.specs.Bit.{flip, Lowest}
-use Rattle.bits.specs.Laws.{xor-zero-eq}
+use Rattle.bits.specs.Bit.{bit, flip, Lowest}
+use Rattle.bits.specs.Laws.{flip-lt, xor-zero-eq}
+use Rattle.paths.specs.Lists.{in-at}
 use Rattle.doors.specs.Doors.{In, Walk}
 use Rattle.doors.specs.Paths.{flip-moves}
-use Rattle.doors.specs.Plain.{full-below, walk-below}
-use Rattle.doors.specs.Rows.{back}
+use Rattle.doors.specs.Plain.{full-below}
+use Rattle.doors.specs.Rows.{back, back-at}
 use Rattle.grid.specs.Grid.{hops, hops-length}
 use Rattle.two_fan.specs.Relays.{Relay, inside, length-inside}
 use Rattle.two_fan.specs.Through.{Stroll, Crosses, crosses-short}
@@ -38,23 +39,19 @@ base-fits {m} {b} h l =
 
 -- ---- a relay of a row
 
-in-at : (l : List ℕ) (i : ℕ) → i < length l → In (getD l i 0) l
-in-at [] i h = absurd (omega arith)
-in-at (x ∷ l) zero h = inl refl
-in-at (x ∷ l) (suc i) h = inr (in-at l i (omega arith))
-
-back-at : (l : List ℕ) (at n i : ℕ) → i < n → getD (back l at n) i 0 ≡ getD l (at + (n - suc i)) 0
-unfolding back
-back-at l at zero i h = absurd (omega arith)
-back-at l at (suc n) zero h = ap (λ (y : ℕ). getD l (at + y) 0) (omega arith)
-back-at l at (suc n) (suc i) h = back-at l at n i (omega arith) ∙ ap (λ (y : ℕ). getD l (at + y) 0) (omega arith)
+-- the blocks of a walk are blocks of the mesh
+walk-below : (n free u t : ℕ) (l : List ℕ) → ((i : ℕ) → bit i free ≡ 1 → i < n) → u < 2 ^ n → Walk free u t l → (x : ℕ) → In x l → x < 2 ^ n
+walk-below n free u t [] h lt w x g = absurd g
+walk-below n free u t (v ∷ l) h lt w x (inl e) = subst (λ (y : ℕ). y < 2 ^ n) (sym (e ∙ w .2)) (flip-lt n u (w .0) lt (h (w .0) (w .1)))
+walk-below n free u t (v ∷ l) h lt w x (inr g) =
+    walk-below n free v t l h (subst (λ (y : ℕ). y < 2 ^ n) (sym (w .2)) (flip-lt n u (w .0) lt (h (w .0) (w .1)))) (w .3) x g
 
 pub hop-is : (g : List ℕ) (j i : ℕ) → length (hops g j) < 34 → i < length (hops g j) → getD g (j * 35 + (getD g (j * 35) 0 - i)) 0 ≡ getD (hops g j) i 0
 unfolding hops
 hop-is g j i few h =
     let c : ℕ = getD g (j * 35) 0 in
     let len = hops-length g j in
-    sym (back-at g (j * 35 + 1) (min 34 c) i (omega arith) ∙ ap (λ (y : ℕ). getD g y 0) (omega arith))
+    sym (back-at g (j * 35 + 1) (min 34 c) 0 i (omega arith) ∙ ap (λ (y : ℕ). getD g y 0) (omega arith))
 
 -- ---- one block
 
@@ -121,7 +118,7 @@ pub record Crossing (m s0 : ℕ) (g : List ℕ) (row n leave last at : ℕ) (was
 
 module _ {m s0 : ℕ} {g : List ℕ} {row n leave last at size : ℕ} (w : Ways m s0 g row n leave last at size) where
   pub crossing-block : (i : ℕ) → i < n → getD (hops g row) i 0 < 2 ^ (2 ^ m)
-  crossing-block i h = walk-below (2 ^ m) (2 ^ (2 ^ m) - 1) s0 (w .end) (hops g row) (full-below (2 ^ m)) (w .home) (w .walk) (getD (hops g row) i 0) (in-at (hops g row) i (omega (arith, w .some)))
+  crossing-block i h = walk-below (2 ^ m) (2 ^ (2 ^ m) - 1) s0 (w .end) (hops g row) (full-below (2 ^ m)) (w .home) (w .walk) (getD (hops g row) i 0) (in-at (hops g row) 0 i (omega (arith, w .some)))
 
   -- the next block is behind a door of block i
   next-door : (i : ℕ) → i + 1 < n → (d : ℕ) × (d < 2 ^ m) × (getD (hops g row) (i + 1) 0 ≡ flip (getD (hops g row) i 0) d)

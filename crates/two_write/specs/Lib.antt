@@ -1,3 +1,4 @@
 -- Paths of the two-level mesh written into a slice, piece by piece.
 pub mod Walked
 pub mod Blocks
+pub mod Slots

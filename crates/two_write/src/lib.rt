@@ -5,6 +5,7 @@ ghost use lib.ListN.{length, getD, take};
 ghost use Rattle.grid.specs.Grid.{hops};
 ghost use Rattle.two_write.specs.Walked.{Room, Walked, Next};
 ghost use Rattle.two_write.specs.Blocks.{Entered, Ways, Crossed, Exit};
+ghost use Rattle.two_write.specs.Slots.{Below, Slotted};
 
 // The slot after u on the way to q.
 fn next(u: u64, q: u64) -> u64
@@ -56,7 +57,16 @@ pub fn hop(grid: &[u64; 1120], row: usize, i: usize) -> u64
 }
 
 // The slot by which block i of a row is left: the door to the next, or `last` in the last of n.
-fn exit(m: u32, s0: u64, grid: &[u64; 1120], row: usize, n: usize, leave: u64, last: u64, i: usize) -> u64
+fn exit(
+    m: u32,
+    s0: u64,
+    grid: &[u64; 1120],
+    row: usize,
+    n: usize,
+    leave: u64,
+    last: u64,
+    i: usize,
+) -> u64
     requires { ⌜ (i < n) × ((at size : ℕ) × Ways m s0 (now grid) row n leave last at size) ⌝ }
     ensures { λ r. ⌜ Exit m (now (grid .entry)) row n last i r ⌝ }
 {
@@ -91,4 +101,40 @@ pub fn write_blocks(
         i += 1;
     }
     p
+}
+
+// Writes the relays of the first n slots of the array, all of block b.
+pub fn write_slots(m: u32, b: u64, slots: [u64; 8], n: usize, at: usize, out: &mut [u64]) -> usize
+    requires { ⌜ (m ≤ 5) × (b < 2 ^ (2 ^ m)) × (n ≤ 8) × Below m n slots × (at + n ≤ length (now out)) ⌝ }
+    ensures { λ r. ⌜ Slotted m b (take n slots) at (now (out .entry)) (now (out .exit)) r ⌝ }
+{
+    let first = base(m, b);
+    let mut i: usize = 0;
+    while i < n {
+        out[at + i] = first + slots[i];
+        i += 1;
+    }
+    at + n
+}
+
+// Writes the relays of the slots of a row, all of block b.
+pub fn write_head(
+    m: u32,
+    b: u64,
+    grid: &[u64; 1120],
+    row: usize,
+    at: usize,
+    out: &mut [u64],
+) -> usize
+    requires { ⌜ (m ≤ 5) × (b < 2 ^ (2 ^ m)) × (row < 32) × (length (now grid) ≡ 1120) × (length (hops (now grid) row) < 34) × Below m (length (hops (now grid) row)) (hops (now grid) row) × (at + length (hops (now grid) row) ≤ length (now out)) ⌝ }
+    ensures { λ r. ⌜ Slotted m b (hops (now (grid .entry)) row) at (now (out .entry)) (now (out .exit)) r ⌝ }
+{
+    let first = base(m, b);
+    let n = grid[row * 35] as usize;
+    let mut i: usize = 0;
+    while i < n {
+        out[at + i] = first + hop(grid, row, i);
+        i += 1;
+    }
+    at + n
 }

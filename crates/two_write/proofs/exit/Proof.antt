@@ -21,7 +21,7 @@ hop-requires-2 : tie.Need-hop-requires-2
 hop-requires-2 c κs = search needs
 
 lowest-requires : tie.Need-lowest-requires
-lowest-requires c κs = 
+lowest-requires c κs =
     let s = c .before .before .before in
     next-differs (s .pre .1 .2) (s .args .i) _ _ (omega arith) (c .before .hop .ensures) (c .hop2 .ensures)
 
@@ -29,7 +29,7 @@ cast-result : tie.Need-cast-result
 cast-result c = search needs
 
 returns-2 : tie.Need-returns-2
-returns-2 c = 
+returns-2 c =
     let s = c .before .before .before .before in
     exit-door (s .pre .1 .2) (s .args .i) _ _ _ (omega arith) (c .before .before .hop .ensures) (c .before .hop2 .ensures) (c .lowest .ensures)
 

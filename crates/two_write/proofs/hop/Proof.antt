@@ -31,7 +31,7 @@ element-copy-out-result-2 : tie.Need-element-copy-out-result-2
 element-copy-out-result-2 c = omega (arith, hops-length (c .before .args .grid .now) (c .before .args .row))
 
 returns : tie.Need-returns
-returns c = 
+returns c =
     let s = c .before .before in
     hop-is (s .args .grid .now) (s .args .row) (s .args .i) (s .pre .2) (s .pre .3)
 

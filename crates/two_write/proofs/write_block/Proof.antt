@@ -22,7 +22,7 @@ add-write-walk : tie.Need-add-write-walk
 add-write-walk c = search needs
 
 write-walk-requires : tie.Need-write-walk-requires
-write-walk-requires c κs = 
+write-walk-requires c κs =
     let s = c .before .before .before in
     record {
       order = s .pre .0;
