@@ -1,0 +1,2 @@
+-- The targets sorted: the contracts of the planner's choices, and their laws.
+pub mod Masks
