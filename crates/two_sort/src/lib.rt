@@ -6,6 +6,10 @@ ghost use Rattle.doors.specs.Choose.{Used};
 ghost use Rattle.two_fan.specs.Sort.{Behind, Shared, Classes};
 ghost use Rattle.two_sort.specs.Masks as masks;
 ghost use Rattle.two_sort.specs.Masks.{at, Equals, added, Few};
+ghost use Rattle.doors.specs.Masks.{less};
+ghost use Rattle.two_fan.specs.Shut.{Opening};
+ghost use Rattle.two_sort.specs.Choice.{IsGated, Gated, Hidden, GateAsk, GateAll};
+ghost use Rattle.two_sort.specs.Doors.{Blocked, Ended, endOf, DoorAsk, NextDoor};
 ghost use Rattle.two_gate.specs.Post.{Tells, Small};
 
 // The set with j, if `yes`.
@@ -92,4 +96,131 @@ fn firsts(blocks: [u64; 8], set: u64) -> u64
         todo = bits::flip(todo, j);
     }
     r
+}
+
+// Whether the target j needs a gate: it is outside the source's block, and its block holds another target or is behind a kept door.
+fn is_gated(s0: u64, blocks: [u64; 8], kept: u64, k: u32, j: u32) -> bool
+    requires { ⌜ (k ≤ 8) × (j < k) ⌝ }
+    ensures { λ r. ⌜ Tells (IsGated s0 k (at blocks) kept j) r ⌝ }
+{
+    let b = blocks[j as usize];
+    if b == s0 {
+        return false;
+    }
+    if shared(blocks, k, j) {
+        return true;
+    }
+    behind(s0, kept, b)
+}
+
+// The targets that need a gate.
+fn gated_of(s0: u64, blocks: [u64; 8], kept: u64, k: u32) -> u64
+    requires { ⌜ k ≤ 8 ⌝ }
+    ensures { λ r. ⌜ Gated s0 k (at blocks) kept k r ⌝ }
+{
+    let mut found: u64 = 0;
+    let mut j: u32 = 0;
+    while j < k {
+        found = add_if(found, j, is_gated(s0, blocks, kept, k, j));
+        j += 1;
+    }
+    found
+}
+
+// The targets whose block is behind a door of the set.
+fn hidden(s0: u64, blocks: [u64; 8], doors: u64, k: u32) -> u64
+    requires { ⌜ k ≤ 8 ⌝ }
+    ensures { λ r. ⌜ Hidden s0 (at blocks) doors k r ⌝ }
+{
+    let mut found: u64 = 0;
+    let mut j: u32 = 0;
+    while j < k {
+        found = add_if(found, j, behind(s0, doors, blocks[j as usize]));
+        j += 1;
+    }
+    found
+}
+
+// A gate slot for each gated target.
+fn gates_of(m: u32, s0: u64, k: u32, blocks: [u64; 8], slots: [u32; 8], gated: u64) -> [u32; 8]
+    requires { ⌜ GateAsk m s0 k blocks slots gated ⌝ }
+    ensures { λ r. ⌜ GateAll m s0 k blocks slots gated r ⌝ }
+{
+    let mut gates = [0u32; 8];
+    let mut done: u64 = 0;
+    let mut todo = gated;
+    while todo != 0 {
+        let j = bits::lowest(todo);
+        let q = two_gate::gate_for(m, s0, k, blocks, slots, gates, done, j);
+        gates[j as usize] = q;
+        done = done | grid::pow(j);
+        todo = bits::flip(todo, j);
+    }
+    gates
+}
+
+// The block behind each gate.
+fn gate_blocks(blocks: [u64; 8], gates: [u32; 8]) -> [u64; 8]
+    requires { ⌜ Small gates ⌝ }
+    ensures { λ r. ⌜ Blocked blocks gates 8 r ⌝ }
+{
+    let mut r = [0u64; 8];
+    let mut j: usize = 0;
+    while j < 8 {
+        r[j] = bits::flip(blocks[j], gates[j]);
+        j += 1;
+    }
+    r
+}
+
+// Where the block path of each row ends: at its target's block or gate block, and that of 8 + j at the crowd of j.
+fn ends_of(blocks: [u64; 8], behind: [u64; 8], gated: u64) -> [u64; 32]
+    ensures { λ r. ⌜ Ended blocks behind gated 8 r ⌝ }
+{
+    let mut r = [0u64; 32];
+    let mut j: usize = 0;
+    while j < 8 {
+        r[j] = end_of(blocks[j], behind[j], bits::bit(gated, j as u32));
+        r[8 + j] = blocks[j];
+        j += 1;
+    }
+    r
+}
+
+fn end_of(block: u64, behind: u64, gated: bool) -> u64
+    ensures { λ r. ⌜ r ≡ endOf block behind gated ⌝ }
+{
+    if gated {
+        return behind;
+    }
+    block
+}
+
+// The doors that stay shut where n are opened, none that is kept, and p0 first unless it is.
+fn shut_doors(doors: u32, p0: u32, keep: u64, n: u32) -> u64
+    requires { ⌜ DoorAsk doors p0 keep n ⌝ }
+    ensures { λ r. ⌜ Opening doors p0 keep n r ⌝ }
+{
+    let mut shut = grid::pow(doors) - 1;
+    let mut i: u32 = 0;
+    while i < n {
+        shut = bits::flip(shut, next_door(p0, keep, shut, i));
+        i += 1;
+    }
+    shut
+}
+
+// The next door to open.
+fn next_door(p0: u32, keep: u64, shut: u64, i: u32) -> u32
+    requires { ⌜ (p0 < 64) × (less shut keep ≡ 0 → ⊥) ⌝ }
+    ensures { λ r. ⌜ NextDoor p0 keep shut i r ⌝ }
+{
+    let free = bits::lowest(grid::less(shut, keep));
+    if i != 0 {
+        return free;
+    }
+    if bits::bit(keep, p0) {
+        return free;
+    }
+    p0
 }
