@@ -2,3 +2,4 @@
 pub mod Masks
 pub mod Choice
 pub mod Doors
+pub mod Chosen

@@ -10,7 +10,22 @@ ghost use Rattle.doors.specs.Masks.{less};
 ghost use Rattle.two_fan.specs.Shut.{Opening};
 ghost use Rattle.two_sort.specs.Choice.{IsGated, Gated, Hidden, GateAsk, GateAll};
 ghost use Rattle.two_sort.specs.Doors.{Blocked, Ended, endOf, DoorAsk, NextDoor};
+ghost use Rattle.two_sort.specs.Chosen.{Asks, Chose};
 ghost use Rattle.two_gate.specs.Post.{Tells, Small};
+
+// What is chosen for k targets: the inner ones, the gated ones with their gate slots, those of them whose gate block is the source's, those with a
+// block path of their own, one of each crowd; the rows of the block paths with their ends; and the doors that stay shut.
+pub struct Choice {
+    pub inner: u64,
+    pub gated: u64,
+    pub straight: u64,
+    pub singles: u64,
+    pub reps: u64,
+    pub rows: u64,
+    pub shut: u64,
+    pub gates: [u32; 8],
+    pub ends: [u64; 32],
+}
 
 // The set with j, if `yes`.
 fn add_if(set: u64, j: u32, yes: bool) -> u64
@@ -223,4 +238,35 @@ fn next_door(p0: u32, keep: u64, shut: u64, i: u32) -> u32
         return free;
     }
     p0
+}
+
+// The choices for the targets in these blocks and slots, k of them, from the slot p0 of block s0.
+pub fn choose(m: u32, s0: u64, p0: u32, k: u32, blocks: [u64; 8], slots: [u32; 8]) -> Choice
+    requires { ⌜ Asks m s0 p0 k blocks slots ⌝ }
+    ensures { λ r. ⌜ Chose m s0 p0 k blocks slots (r .inner) (r .gated) (r .straight) (r .singles) (r .reps) (r .rows) (r .shut) (r .gates) (r .ends) ⌝ }
+{
+    let inner = equals(blocks, s0, k);
+    let kept = values(slots, inner);
+    let gated = gated_of(s0, blocks, kept, k);
+    let gates = gates_of(m, s0, k, blocks, slots, gated);
+    let behind = gate_blocks(blocks, gates);
+    let straight = common(gated, equals(behind, s0, k));
+    let keep = kept | values(gates, straight);
+    let reps = firsts(blocks, grid::less(gated, hidden(s0, blocks, keep, k)));
+    let crowds = values([8u32, 9, 10, 11, 12, 13, 14, 15], reps);
+    let singles = grid::less(grid::less(grid::pow(k) - 1, inner), straight);
+    let rows = singles | crowds;
+    let ends = ends_of(blocks, behind, gated);
+    let shut = shut_doors(1 << m, p0, keep, u64::count_ones(rows));
+    Choice {
+        inner,
+        gated,
+        straight,
+        singles,
+        reps,
+        rows,
+        shut,
+        gates,
+        ends,
+    }
 }
