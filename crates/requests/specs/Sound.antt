@@ -1,7 +1,7 @@
 -- A request's faults in their parts: the size first, then 2 to 7, then doors and room (`faults-parts`); and what a request is that none of
 -- 2 to 7 stands against (`sound`). Assumes nothing.
-use Prim.Native.Nat.{ℕ, zero, suc, _+_, _≤_, _<_}
-use mathlib.Core.Path.{_≡_, refl, sym, ap, _∙_}
+use Prim.Native.Nat.{ℕ, zero, suc, _≤_, _<_}
+use mathlib.Core.Path.{_≡_, refl, sym, ap}
 use mathlib.Core.Bool.{Bool, true, false}
 use mathlib.Core.Logic.{_⊎_, inl, inr, ⊎-elim, _≢_}
 use mathlib.Core.List.{List}
@@ -10,9 +10,9 @@ use native.Mathlib.Omega.{arith}
 use lib.Dec.{eqb, leb, ltb}
 use lib.ListN.{length, getD}
 use borrow.Author.Tests.{leb-false, ltb-false, eqb-false}
-use Rattle.scan.specs.Scan.{Spot, nowhere, at, pick}
+use Rattle.scan.specs.Scan.{Spot, nowhere, at}
 use Rattle.scan.specs.Laws.{seek-none, among-false}
-use Rattle.answers.specs.Order.{Faults, first, refuse, refuse-at, firstAt, isOut, isSame, isAgain, requestFaults}
+use Rattle.answers.specs.Order.{first, refuse, refuse-at, firstAt, isOut, isSame, isAgain, requestFaults}
 use Rattle.answers.specs.declared.Refusal.{Refusal}
 use Rattle.answers.specs.declared.Refusal.the-variants.{UnknownSize, SourceOut, NoTarget, TooMany, TargetOut, TargetIsSource, TargetAgain, BadDoors, NoRoom}
 

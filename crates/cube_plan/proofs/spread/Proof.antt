@@ -1,10 +1,10 @@
 -- `cube_plan::spread` meets its contract. The loop's invariant: the first j paths are written, and filler stands in the places of the others.
 -- Assumes nothing.
-use mathlib.Core.Path.{_≡_, refl, sym, _∙_}
-use Prim.Native.Nat.{ℕ, _+_, _*_, _≤_, _<_, _-_}
+use mathlib.Core.Path.{_≡_, refl, _∙_}
+use Prim.Native.Nat.{ℕ, _*_, _≤_, _<_, _-_}
 use mathlib.Core.List.{List}
 use native.Mathlib.Omega.{arith}
-use lib.ListN.{length, getD, length-set}
+use lib.ListN.{length, length-set}
 use Rattle.cube_plan.specs.Fan.{Filled, Spread, row-room, spread-none, spread-more, spread-all}
 use borrow.Author.Needs.{needs}
 use Rattle.cube_plan.proofs.spread.Statement.{statement}
