@@ -5,11 +5,11 @@
 use Prim.Native.Nat.{ℕ, zero, suc, _+_, _-_, _*_, _/_, _%_, _^_, _≤_, _<_}
 use mathlib.Core.Path.{_≡_, refl, sym, ap, ap₂, _∙_, subst}
 use mathlib.Core.Logic.{_⊎_, inl, inr, ⊎-elim, _≢_}
-use native.Mathlib.Nat.{pow-suc, zero-mul, one-mul}
+use native.Mathlib.Nat.{pow-suc, zero-mul, one-mul, lt-of-lt-of-le}
 use native.Mathlib.Omega.{arith}
 use native.Mathlib.Decide.{ℕ-discrete}
 use lib.Arith.{lt-one, digits-div, digits-mod}
-use lib.Pow.{pow-pos, pow-lt}
+use lib.Pow.{pow-pos, pow-lt, pow-mono}
 use lib.Bits.{bitXor, differ, xor-comm, xor-self, xor-zero-l, xor-lt}
 use lib.Count.{ones}
 use Rattle.bits.specs.Bit.{bit, flip, Lowest}
@@ -103,12 +103,19 @@ gather-bit f (suc n) i h l = ap (bit i) (gather-more f n) ∙ go (ℕ-discrete i
     go (yes e) rest = rw e (bit-top n (f n) (gather f n) (h n) (gather-lt f n h))
     go (no ne) rest = bit-under n i (f n) (gather f n) (omega arith) ∙ rest (omega arith)
 
+-- a bit at its place, and one more, fit a word
+pub placed-fits : (j x i : ℕ) → i < 64 → bit j x * 2 ^ i < 2 ^ 64
+placed-fits j x i h = ⊎-elim (λ e. rw e (pow-pos 64)) (λ e. rw e (pow-lt h)) (digit (bit j x) i (bit-lt j x))
+
+pub gather-fits : (f : ℕ → ℕ) (i : ℕ) → ((j : ℕ) → f j < 2) → i < 64 → gather f i + f i * 2 ^ i < 2 ^ 64
+gather-fits f i h l = rw (← gather-next f i) (lt-of-lt-of-le (gather-lt f (i + 1) h) (pow-mono {j = 64} (omega arith)))
+
 -- ---- bits moved from p to p xor b
 
 module _ (m b : ℕ) (hb : b < 2 ^ m) where
   pub shuffled-lt : (x : ℕ) → shuffled (2 ^ m) b x < 2 ^ (2 ^ m)
   unfolding shuffled
-  shuffled-lt x = gather-lt (λ i. bit (bitXor i b) x) (2 ^ m) (λ i. bit-lt (bitXor i b) x)
+  shuffled-lt x = gather-lt _ (2 ^ m) (λ i. bit-lt _ x)
 
   pub shuffled-bit : (x i : ℕ) → i < 2 ^ m → bit i (shuffled (2 ^ m) b x) ≡ bit (bitXor i b) x
   unfolding shuffled

@@ -43,3 +43,14 @@ walk-ends next t P rank keeps falls (suc n) s h r = go (ℕ-discrete s t) (λ q.
     go : Dec (s ≡ t) → (rank (next s t) ≤ n → (k : ℕ) × (k ≤ n) × Arrives next (next s t) t k) → (k : ℕ) × (k ≤ suc n) × Arrives next s t k
     go (yes e) rest = (0, omega arith, arrives-start next s t e)
     go (no ne) rest = let (k, l, a) = rest (omega (arith, falls s h ne)) in (suc k, omega arith, arrives-more next s t k ne a)
+
+-- a walk that needs n hops is not there before, and is there then
+pub not-yet : (next : ℕ → ℕ → ℕ) (s t n k : ℕ) → Arrives next s t n → k ≤ n → node next s t k ≢ t → k < n
+not-yet next s t n k a l h = let ne : k ≢ n = λ e. h (ap (node next s t) e ∙ a .there) in omega arith
+
+pub now-there : (next : ℕ → ℕ → ℕ) (s t n k : ℕ) → Arrives next s t n → k ≤ n → node next s t k ≡ t → k ≡ n
+now-there next s t n k a l h = go (ℕ-discrete k n)
+  where
+    go : Dec (k ≡ n) → k ≡ n
+    go (yes e) = e
+    go (no ne) = absurd (a .not-before k (omega arith) h)

@@ -13,3 +13,4 @@ pub mod Steps
 pub mod Told
 pub mod Refusals
 pub mod Post
+pub mod Cases

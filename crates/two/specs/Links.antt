@@ -3,13 +3,14 @@
 -- has exactly m + 1 links (`links-count`). Assumes nothing.
 use Prim.Native.Nat.{ℕ, zero, suc, _+_, _*_, _/_, _%_, _^_, _≤_, _<_}
 use mathlib.Core.Path.{_≡_, refl, sym, ap, ap₂, _∙_, subst}
-use mathlib.Core.Bool.{Bool, true, false, _&&_, _||_}
+use mathlib.Core.Bool.{Bool, true, false, _&&_, _||_, and-false, or-false}
 use mathlib.Core.Logic.{_⊎_, inl, inr, ⊎-elim, _≢_}
 use native.Mathlib.Omega.{arith}
 use native.Mathlib.Decide.{ℕ-discrete}
 use lib.Bits.{bitXor, xor-comm, xor-lt, xor-self}
 use lib.Count.{ones}
 use lib.Dec.{eqb}
+use lib.Pow.{pow-pos}
 use borrow.Author.Tests.{eqb-true, eq-eqb, ne-eqb}
 use Rattle.bits.specs.Bit.{bit, flip}
 use Rattle.bits.specs.Laws.{bit-lt, flip-same, flip-other, flip-lt, ones-one, ones-pow}
@@ -82,6 +83,28 @@ unfolding linked
 linked-parts m b p c q hp hq =
     ap₂ (λ (x y : ℕ). joined x y (blockOf m (relay m c q)) (slotOf m (relay m c q))) (block-relay m b p hp) (slot-relay m b p hp)
     ∙ ap₂ (joined b p) (block-relay m c q hq) (slot-relay m c q hq)
+
+-- ---- the test, case by case
+
+same-none : (b c p : ℕ) → b ≡ c → eqb (bitXor b c) (2 ^ p) ≡ false
+same-none b c p e =
+    ne-eqb (bitXor b c) (2 ^ p) (λ z. let n : 0 ≡ 2 ^ p = sym (ap (λ (y : ℕ). bitXor y c) e ∙ xor-self c) ∙ z in omega (arith, pow-pos p))
+
+pub joined-same : (b p c q : ℕ) → b ≡ c → joined b p c q ≡ eqb (ones (bitXor p q)) 1
+unfolding joined
+joined-same b p c q e =
+    ap₂ (λ (x y : Bool). (x && eqb (ones (bitXor p q)) 1) || (eqb p q && y)) (eq-eqb b c e) (same-none b c p e)
+    ∙ ap (λ (x : Bool). eqb (ones (bitXor p q)) 1 || x) (and-false (eqb p q)) ∙ or-false (eqb (ones (bitXor p q)) 1)
+
+pub joined-across : (b p c q : ℕ) → b ≢ c → p ≡ q → joined b p c q ≡ eqb (bitXor b c) (2 ^ p)
+unfolding joined
+joined-across b p c q ne e =
+    ap₂ (λ (x y : Bool). (x && eqb (ones (bitXor p q)) 1) || (y && eqb (bitXor b c) (2 ^ p))) (ne-eqb b c ne) (eq-eqb p q e)
+
+pub joined-not : (b p c q : ℕ) → b ≢ c → p ≢ q → joined b p c q ≡ false
+unfolding joined
+joined-not b p c q nb np =
+    ap₂ (λ (x y : Bool). (x && eqb (ones (bitXor p q)) 1) || (y && eqb (bitXor b c) (2 ^ p))) (ne-eqb b c nb) (ne-eqb p q np)
 
 -- ---- links go both ways
 

@@ -23,18 +23,23 @@ toward m p q = pick (eqb p q) p (flip p (trailingZeros m (bitXor p q)))
 unfoldable pub heading : (m b c q : ℕ) → ℕ
 heading m b c q = pick (eqb b c) q (crossing m (bitXor b c))
 
--- the block and the slot after block b, slot p on the way to block c, slot q
+-- the block after block b, slot p on the way to block c, where the slot walks to h
+unfoldable pub crossed : (b p c h : ℕ) → ℕ
+crossed b p c h = pick (eqb b c) b (pick (eqb p h) (flip b p) b)
+
+-- the relay after block b, slot p on the way to block c, slot q: its block, its slot and its number
 unfoldable pub nextBlock : (m b p c q : ℕ) → ℕ
-nextBlock m b p c q = pick (eqb b c) b (pick (eqb p (heading m b c q)) (flip b p) b)
+nextBlock m b p c q = crossed b p c (heading m b c q)
 
 unfoldable pub nextSlot : (m b p c q : ℕ) → ℕ
 nextSlot m b p c q = toward m p (heading m b c q)
 
+unfoldable pub step : (m b p c q : ℕ) → ℕ
+step m b p c q = relay m (nextBlock m b p c q) (nextSlot m b p c q)
+
 -- the relay after u on the way to t
 unfoldable pub next : (m u t : ℕ) → ℕ
-next m u t =
-    relay m (nextBlock m (blockOf m u) (slotOf m u) (blockOf m t) (slotOf m t))
-    (nextSlot m (blockOf m u) (slotOf m u) (blockOf m t) (slotOf m t))
+next m u t = step m (blockOf m u) (slotOf m u) (blockOf m t) (slotOf m t)
 
 -- the number of next-hop steps from s to t, and the relays on the way, s the first
 unfoldable pub hops : (m s t : ℕ) → ℕ

@@ -1,9 +1,39 @@
--- What the inner functions ask and promise.
+-- What the inner functions ask.
 use Prim.Native.Nat.{ℕ, _≤_, _<_}
+use mathlib.Core.Path.{_≡_}
 use Rattle.two.specs.Two.{slots, blocks}
+use Rattle.two.specs.Next.{hops}
+use Rattle.two.specs.Refusals.{Fine}
 
 -- a block and a slot of a mesh of order at most 5
 pub record Placed (m b p : ℕ) : Type 0 where
   pub order : m ≤ 5
   pub block : b < blocks m
   pub slot : p < slots m
+
+-- the bits in which two blocks differ, and there are such
+pub record Apart (m x : ℕ) : Type 0 where
+  pub order : m ≤ 5
+  pub below : x < blocks m
+  pub some : x ≡ 0 → ⊥
+
+-- two slots, two blocks, and both
+pub record Slots (m p q : ℕ) : Type 0 where
+  pub order : m ≤ 5
+  pub from : p < slots m
+  pub to : q < slots m
+
+pub record Between (m b c : ℕ) : Type 0 where
+  pub order : m ≤ 5
+  pub from : b < blocks m
+  pub to : c < blocks m
+
+pub record Pair (m b p c q : ℕ) : Type 0 where
+  pub from : Placed m b p
+  pub to : Placed m c q
+
+-- n is the hops from s to t, and there are more places than that
+pub record Room (m s t n places : ℕ) : Type 0 where
+  pub fine : Fine m s t
+  pub all : n ≡ hops m s t
+  pub room : n < places

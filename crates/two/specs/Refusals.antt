@@ -70,19 +70,19 @@ module _ (m s t : ℕ) where
       go (inl k) (inl h) (inl g) =
           let f : Fine m s t = record { order = k; source = h; target = g } in fair f (faults-room false f)
 
-  pub fine : faults m s t false ≡ none → Fine m s t
+  pub fine : none ≡ faults m s t false → Fine m s t
   fine e = go look
     where
       go : Found (faults m s t false) → Fine m s t
       go (fair f z) = f
       go (foul why z all) = let n : _≡_ {A = ℕ} 0 1 = cc in absurd (omega arith)
 
-  pub fails : (why : Refusal) (room : Bool) → faults m s t false ≡ some why → faults m s t room ≡ some why
+  pub fails : (why : Refusal) (room : Bool) → some why ≡ faults m s t false → faults m s t room ≡ some why
   fails why room e = go look
     where
       go : Found (faults m s t false) → faults m s t room ≡ some why
       go (fair f z) = let n : _≡_ {A = ℕ} 0 1 = cc in absurd (omega arith)
-      go (foul w z all) = all room ∙ sym z ∙ e
+      go (foul w z all) = all room ∙ sym z ∙ sym e
 
 -- ---- the facts of an order
 
@@ -97,10 +97,10 @@ fact-unknown m value k = ap (λ (x : Bool). tell (first (sizeFaults (not x))) 0 
 -- ---- what is told
 
 -- of a value, where nothing stands against it; of a refusal
-pub tell-value : {A : Type 0} (r : Option Refusal) (nothing value : A) → r ≡ none → tell r nothing value ≡ told 0 0 value
+pub tell-value : {A : Type 0} (r : Option Refusal) (nothing value : A) → none ≡ r → told 0 0 value ≡ tell r nothing value
 tell-value r nothing value e = ap (λ (x : Option Refusal). tell x nothing value) e
 
-pub tell-refusal : {A : Type 0} (r : Option Refusal) (why : Refusal) (nothing value : A) → r ≡ some why → tell r nothing value ≡ tell (some why) nothing nothing
+pub tell-refusal : {A : Type 0} (r : Option Refusal) (why : Refusal) (nothing value : A) → some why ≡ r → tell (some why) nothing nothing ≡ tell r nothing value
 tell-refusal r why nothing value e = ap (λ (x : Option Refusal). tell x nothing value) e
 
 module _ (m s t : ℕ) (out : List ℕ) where
@@ -108,7 +108,7 @@ module _ (m s t : ℕ) (out : List ℕ) where
   end = length out
 
   -- a route that is refused for another reason than room
-  pub route-refused : (why : Refusal) → faults m s t false ≡ some why → (tell (some why) 0 0 ≡ routeTold m s t (length out)) × (out ≡ routeLeaves m s t out)
+  pub route-refused : (why : Refusal) → some why ≡ faults m s t false → (tell (some why) 0 0 ≡ routeTold m s t (length out)) × (out ≡ routeLeaves m s t out)
   unfolding routeTold routeLeaves
   route-refused why e =
       let f = fails m s t why (leb end (hops m s t)) e in

@@ -12,25 +12,71 @@ use lib.Bits.{bitXor, xor-lt}
 use lib.Count.{ones, ones-le, trailingZeros}
 use lib.Dec.{eqb}
 use borrow.Author.Tests.{eq-eqb, ne-eqb}
-use Rattle.bits.specs.Bit.{bit, flip}
+use Rattle.bits.specs.Bit.{bit, flip, Lowest}
 use Rattle.bits.specs.Laws.{trailing-lowest, xor-zero-eq, flip-lt, flip-xor, ones-clear}
 use Rattle.scan.specs.Scan.{pick}
 use Rattle.paths.specs.Mesh.{width}
 use Rattle.paths.specs.Walk.{node, Arrives}
 use Rattle.paths.specs.Walks.{hops-is}
 use Rattle.two.specs.Two.{slots, blocks, relays, longest, blockOf, slotOf, relay, linked, two}
-use Rattle.two.specs.Next.{crossing, toward, heading, nextBlock, nextSlot, next, hops}
-use Rattle.two.specs.Digits.{bit-below}
+use Rattle.two.specs.Next.{crossing, toward, heading, crossed, nextBlock, nextSlot, next, hops}
+use Rattle.two.specs.Next as def
+use Rattle.two.specs.Digits.{lowest-alike}
 use Rattle.two.specs.Parts.{block-relay, slot-relay, relay-parts, relay-below, block-below, slot-below, same-parts}
 use Rattle.two.specs.Links.{Link, link-linked, link-within}
 use Rattle.two.specs.Ends.{walk-ends, node-keeps}
 
 -- ---- what is used of the choice of the block bit
 
+-- the one that a word of 64 bits has lowest
+pub crossing-lowest : (m x i : ℕ) → x ≢ 0 → x < blocks m → Lowest 64 x i → i ≡ crossing m x
+unfolding crossing
+crossing-lowest m x i ne h l = lowest-alike 64 (2 ^ m) x i (trailingZeros (2 ^ m) x) l (trailing-lowest (2 ^ m) x ne h)
+
 -- it is a bit in which the blocks differ
 pub crossing-bit : (m x : ℕ) → x ≢ 0 → x < blocks m → (crossing m x < slots m) × (bit (crossing m x) x ≡ 1)
 unfolding crossing
 crossing-bit m x ne h = let low = trailing-lowest (2 ^ m) x ne h in (low .within, low .set)
+
+-- ---- the next hop's parts, case by case
+
+pub heading-same : (m b c q : ℕ) → b ≡ c → heading m b c q ≡ q
+unfolding heading
+heading-same m b c q e = ap (λ (x : Bool). pick x q (crossing m (bitXor b c))) (eq-eqb b c e)
+
+pub heading-other : (m b c q : ℕ) → b ≢ c → heading m b c q ≡ crossing m (bitXor b c)
+unfolding heading
+heading-other m b c q ne = ap (λ (x : Bool). pick x q (crossing m (bitXor b c))) (ne-eqb b c ne)
+
+pub crossed-there : (b p c h : ℕ) → b ≡ c → crossed b p c h ≡ b
+unfolding crossed
+crossed-there b p c h e = ap (λ (x : Bool). pick x b (pick (eqb p h) (flip b p) b)) (eq-eqb b c e)
+
+pub crossed-over : (b p c h : ℕ) → b ≢ c → p ≡ h → crossed b p c h ≡ flip b p
+unfolding crossed
+crossed-over b p c h ne e = ap₂ (λ (x y : Bool). pick x b (pick y (flip b p) b)) (ne-eqb b c ne) (eq-eqb p h e)
+
+pub crossed-not : (b p c h : ℕ) → p ≢ h → crossed b p c h ≡ b
+unfolding crossed
+crossed-not b p c h ne = ap (λ (y : Bool). pick (eqb b c) b (pick y (flip b p) b)) (ne-eqb p h ne) ∙ either (eqb b c)
+  where
+    either : (x : Bool) → pick x b b ≡ b
+    either true = refl
+    either false = refl
+
+pub toward-there : (m p q : ℕ) → p ≡ q → toward m p q ≡ p
+unfolding toward
+toward-there m p q e = ap (λ (x : Bool). pick x p (flip p (trailingZeros m (bitXor p q)))) (eq-eqb p q e)
+
+toward-moves : (m p q : ℕ) → p ≢ q → toward m p q ≡ flip p (trailingZeros m (bitXor p q))
+unfolding toward
+toward-moves m p q ne = ap (λ (x : Bool). pick x p (flip p (trailingZeros m (bitXor p q)))) (ne-eqb p q ne)
+
+-- as a word of 64 bits has them
+pub toward-lowest : (m p q i : ℕ) → p < slots m → q < slots m → p ≢ q → Lowest 64 (bitXor p q) i → toward m p q ≡ flip p i
+toward-lowest m p q i hp hq ne l =
+    toward-moves m p q ne
+    ∙ ap (flip p) (lowest-alike m 64 (bitXor p q) (trailingZeros m (bitXor p q)) i (trailing-lowest m (bitXor p q) (λ z. ne (xor-zero-eq p q z)) (xor-lt m p q hp hq)) l)
 
 -- ---- one hop, by blocks and slots
 
@@ -41,20 +87,12 @@ module _ (m b p c q : ℕ) (hb : b < blocks m) (hp : p < slots m) (hc : c < bloc
   xor-some : b ≢ c → bitXor b c ≢ 0
   xor-some ne e = ne (xor-zero-eq b c e)
 
-  heading-same : b ≡ c → heading m b c q ≡ q
-  unfolding heading
-  heading-same e = ap (λ (x : Bool). pick x q (crossing m (bitXor b c))) (eq-eqb b c e)
-
-  heading-other : b ≢ c → heading m b c q ≡ crossing m (bitXor b c)
-  unfolding heading
-  heading-other ne = ap (λ (x : Bool). pick x q (crossing m (bitXor b c))) (ne-eqb b c ne)
-
   pub heading-below : heading m b c q < slots m
   heading-below = go (ℕ-discrete b c)
     where
       go : Dec (b ≡ c) → h < slots m
-      go (yes e) = rw (heading-same e) hq
-      go (no ne) = rw (heading-other ne) (crossing-bit m (bitXor b c) (xor-some ne) (xor-lt (2 ^ m) b c hb hc) .0)
+      go (yes e) = rw (heading-same m b c q e) hq
+      go (no ne) = rw (heading-other m b c q ne) (crossing-bit m (bitXor b c) (xor-some ne) (xor-lt (2 ^ m) b c hb hc) .0)
 
   -- a hop: none, where it is the target; along a slot bit that is not the heading's; or across, where the blocks differ in the slot's bit
   abbrev pub Step : Type 0
@@ -63,40 +101,17 @@ module _ (m b p c q : ℕ) (hb : b < blocks m) (hp : p < slots m) (hc : c < bloc
       ⊎ (((nextBlock m b p c q ≡ b) × ((d : ℕ) × (d < m) × (bit d (bitXor p (heading m b c q)) ≡ 1) × (nextSlot m b p c q ≡ flip p d)))
       ⊎ ((b ≢ c) × (bit p (bitXor b c) ≡ 1) × (nextBlock m b p c q ≡ flip b p) × (nextSlot m b p c q ≡ p)))
 
-  block-there : b ≡ c → nextBlock m b p c q ≡ b
-  unfolding nextBlock
-  block-there e = ap (λ (x : Bool). pick x b (pick (eqb p h) (flip b p) b)) (eq-eqb b c e)
-
-  block-cross : b ≢ c → p ≡ h → nextBlock m b p c q ≡ flip b p
-  unfolding nextBlock
-  block-cross ne e = ap₂ (λ (x y : Bool). pick x b (pick y (flip b p) b)) (ne-eqb b c ne) (eq-eqb p h e)
-
-  block-stay : p ≢ h → nextBlock m b p c q ≡ b
-  unfolding nextBlock
-  block-stay ne = ap (λ (y : Bool). pick (eqb b c) b (pick y (flip b p) b)) (ne-eqb p h ne) ∙ either (eqb b c)
-    where
-      either : (x : Bool) → pick x b b ≡ b
-      either true = refl
-      either false = refl
-
-  slot-there : p ≡ h → nextSlot m b p c q ≡ p
-  unfolding nextSlot toward
-  slot-there e = ap (λ (x : Bool). pick x p (flip p (trailingZeros m (bitXor p h)))) (eq-eqb p h e)
-
-  slot-moves : p ≢ h → nextSlot m b p c q ≡ flip p (trailingZeros m (bitXor p h))
-  unfolding nextSlot toward
-  slot-moves ne = ap (λ (x : Bool). pick x p (flip p (trailingZeros m (bitXor p h)))) (ne-eqb p h ne)
-
   pub step : Step
+  unfolding nextBlock nextSlot
   step = go (ℕ-discrete p h) (ℕ-discrete b c)
     where
       go : Dec (p ≡ h) → Dec (b ≡ c) → Step
-      go (yes e) (yes z) = inl (z, e ∙ heading-same z, block-there z, slot-there e)
+      go (yes e) (yes z) = inl (z, e ∙ heading-same m b c q z, crossed-there b p c h z, toward-there m p h e)
       go (yes e) (no ne) =
-          inr (inr (ne, ap (λ (x : ℕ). bit x (bitXor b c)) (e ∙ heading-other ne) ∙ crossing-bit m (bitXor b c) (xor-some ne) (xor-lt (2 ^ m) b c hb hc) .1, block-cross ne e, slot-there e))
+          inr (inr (ne, ap (λ (x : ℕ). bit x (bitXor b c)) (e ∙ heading-other m b c q ne) ∙ crossing-bit m (bitXor b c) (xor-some ne) (xor-lt (2 ^ m) b c hb hc) .1, crossed-over b p c h ne e, toward-there m p h e))
       go (no ne) d =
           let low = trailing-lowest m (bitXor p h) (λ z. ne (xor-zero-eq p h z)) (xor-lt m p h hp heading-below) in
-          inr (inl (block-stay ne, (trailingZeros m (bitXor p h), low .within, low .set, slot-moves ne)))
+          inr (inl (crossed-not b p c h ne, (trailingZeros m (bitXor p h), low .within, low .set, toward-moves m p h ne)))
 
   pub step-link : ((b ≡ c) × (p ≡ q) → ⊥) → Link m b p (nextBlock m b p c q) (nextSlot m b p c q)
   step-link far = go step
@@ -170,15 +185,15 @@ module _ (m t : ℕ) (ht : t < relays m) where
     within = step-within m (blockOf m u) (slotOf m u) c q (block-below m u hu) (slot-below m u) (block-below m t ht) (slot-below m t)
 
     pub next-block : blockOf m (next m u t) ≡ nextBlock m (blockOf m u) (slotOf m u) (blockOf m t) (slotOf m t)
-    unfolding next
+    unfolding next def.step
     next-block = block-relay m nb np (within .1)
 
     pub next-slot : slotOf m (next m u t) ≡ nextSlot m (blockOf m u) (slotOf m u) (blockOf m t) (slotOf m t)
-    unfolding next
+    unfolding next def.step
     next-slot = slot-relay m nb np (within .1)
 
     pub next-below : next m u t < relays m
-    unfolding next
+    unfolding next def.step
     next-below = relay-below m nb np (within .0) (within .1)
 
     apart : u ≢ t → (blockOf m u ≡ c) × (slotOf m u ≡ q) → ⊥
@@ -196,12 +211,10 @@ module _ (m t : ℕ) (ht : t < relays m) where
 
   -- the target is its own next hop
   pub next-there : next m t t ≡ t
-  unfolding next
+  unfolding next def.step nextBlock nextSlot
   next-there =
-      let hc = block-below m t ht in
-      let hq = slot-below m t in
-      ap₂ (relay m) (block-there m c q c q hc hq hc hq refl) (slot-there m c q c q hc hq hc hq (sym (heading-same m c q c q hc hq hc hq refl)))
-      ∙ relay-parts m t
+      let e = heading-same m c c q refl in
+      ap₂ (relay m) (crossed-there c q c (heading m c c q) refl) (toward-there m q (heading m c c q) (sym e)) ∙ relay-parts m t
 
   pub node-below : (s k : ℕ) → s < relays m → node (next m) s t k < relays m
   node-below s k h = node-keeps (next m) t (λ u. u < relays m) (λ u l. next-below u l) s k h

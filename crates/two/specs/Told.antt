@@ -3,12 +3,14 @@
 use Prim.Native.Nat.{ℕ, _+_}
 use mathlib.Core.Bool.{Bool, false, not}
 use mathlib.Core.List.{List, _++_}
-use mathlib.Core.Option.{Option}
+use mathlib.Core.Option.{Option, none, some}
 use lib.Dec.{leb}
 use lib.ListN.{length, drop}
 use Rattle.answers.specs.Told.{Told, tell, leaves}
 use Rattle.answers.specs.Order.{first, sizeFaults, pairFaults}
 use Rattle.answers.specs.declared.Refusal.{Refusal}
+use Rattle.two.specs.declared.parts.Place.{Place}
+use Rattle.two.specs.declared.parts.Place.the-variants.{At, Refused}
 use Rattle.two.specs.Two.{known, relays, blockOf, slotOf, linked}
 use Rattle.two.specs.Next.{next, hops, route}
 use Rattle.two.specs.Seen.{seen}
@@ -20,6 +22,18 @@ faults m s t room = first (pairFaults (not (known m)) false (relays m) s t room)
 -- a fact of the order
 unfoldable pub factTold : (m value : ℕ) → Told ℕ
 factTold m value = tell (first (sizeFaults (not (known m)))) 0 value
+
+-- block and slot
+abbrev pub placeTold : Place → Told (ℕ × ℕ)
+placeTold (At b p) = tell none (0, 0) (b .0, p .0)
+placeTold (Refused why) = tell (some why) (0, 0) (0, 0)
+
+-- of a relay alone: relay 0 as the other is never out of range
+unfoldable pub splitTold : (m r : ℕ) → Told (ℕ × ℕ)
+splitTold m r = tell (faults m r 0 false) (0, 0) (blockOf m r, slotOf m r)
+
+unfoldable pub numberTold : (m r : ℕ) → Told ℕ
+numberTold m r = tell (faults m r 0 false) 0 r
 
 unfoldable pub linkedTold : (m s t : ℕ) → Told Bool
 linkedTold m s t = tell (faults m s t false) false (linked m s t)

@@ -1,0 +1,20 @@
+-- `two::parts::block_of` meets its contract. Assumes nothing.
+use Prim.Native.Nat.{ℕ, _/_, _^_}
+use mathlib.Core.Path.{ap}
+use borrow.Author.Needs.{needs}
+use native.Mathlib.Omega.{arith}
+use lib.Pow.{pow-pos}
+use Rattle.two.proofs.parts.block_of.Statement.{statement}
+use Rattle.two.proofs.parts.block_of.Tie as tie
+
+pow-requires : tie.Need-pow-requires
+pow-requires c κs = search needs
+
+div-t4 : tie.Need-div-t4
+div-t4 c = omega (arith, c .pow .ensures, pow-pos (c .before .args .order .0))
+
+returns : tie.Need-returns
+returns c = ap (λ (k : ℕ). c .before .args .relay / k) (c .pow .ensures)
+
+pub block-of-spec : {M : Type 1} → statement M
+block-of-spec = tie.close (tie.spec pow-requires div-t4 returns)

@@ -1,0 +1,18 @@
+-- `two::sizes::pow` meets its contract. 1 shifted by less than 64 is the power of two. Assumes nothing.
+use mathlib.Core.Path.{_∙_}
+use Prim.Native.Nat.{_^_}
+use native.Mathlib.Nat.{one-mul}
+use native.Mathlib.Omega.{arith}
+use borrow.Author.Needs.{needs}
+use lib.Pow.{shl-exact}
+use Rattle.two.proofs.sizes.pow.Statement.{statement}
+use Rattle.two.proofs.sizes.pow.Tie as tie
+
+shl-result : tie.Need-shl-result
+shl-result c = search needs
+
+returns : tie.Need-returns
+returns c = shl-exact 1 (c .args .k) 64 (omega arith) (omega arith) ∙ one-mul (2 ^ c .args .k)
+
+pub pow-spec : {M : Type 1} → statement M
+pow-spec = tie.close (tie.spec shl-result returns)

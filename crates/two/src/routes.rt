@@ -1,0 +1,80 @@
+// The plain route.
+ghost use mathlib.Core.Path.{_≡_};
+ghost use mathlib.Core.List.{_++_};
+ghost use Prim.Native.Nat.{_+_};
+ghost use lib.ListN.{length, drop};
+ghost use Rattle.answers.specs.Told.{answerTold};
+ghost use Rattle.two.specs.Two as specs;
+ghost use Rattle.two.specs.Next as next;
+ghost use Rattle.two.specs.Told.{routeTold, routeLeaves};
+ghost use Rattle.two.specs.Post.{Room};
+ghost use Rattle.two.specs.Refusals.{Fine};
+use crate::parts;
+use crate::parts::Block;
+use crate::parts::Slot;
+use crate::sizes::Order;
+use crate::steps;
+use answers::Answer;
+use answers::Checked;
+use answers::Refusal;
+
+// How many hops it is from s to t: as many as it takes to arrive.
+fn hops(order: Order, s: u64, t: u64) -> usize
+    requires { ⌜ Fine (order .0) s t ⌝ }
+    ensures { λ r. ⌜ r ≡ next.hops (order .0) s t ⌝ }
+{
+    let mut at = s;
+    let mut k: usize = 0;
+    while at != t {
+        at = steps::hop(order, at, t);
+        k += 1;
+    }
+    k
+}
+
+// Writes the n hops of the route from s to t, s first.
+fn write(order: Order, s: u64, t: u64, n: usize, out: &mut [u64])
+    requires { ⌜ Room (order .0) s t n (length (now out)) ⌝ }
+    ensures { λ r. ⌜ now (out .exit) ≡ next.route (order .0) s t ++ drop (n + 1) (now (out .entry)) ⌝ }
+{
+    out[0] = s;
+    let mut at = s;
+    let mut i: usize = 0;
+    while i < n {
+        at = steps::hop(order, at, t);
+        i += 1;
+        out[i] = at;
+    }
+}
+
+// Writes the plain route from source to target into `out`, from place 0, and gives its hops; the places after it stay as they were.
+// `route(Order(2), 0, 23, ..)` writes 0, 4, 6, 22, 23 and gives 4. Refuses with 1, 2, 5, 8, and then leaves `out` as it was.
+pub fn route(order: Order, source: u64, target: u64, out: &mut [u64]) -> Answer
+    ensures { λ r. ⌜ answerTold r ≡ routeTold (order .0) source target (length (now (out .entry))) ⌝ }
+    ensures { λ r. ⌜ now (out .exit) ≡ routeLeaves (order .0) source target (now (out .entry)) ⌝ }
+{
+    match parts::checked(order, source, target) {
+        Checked::Fine => {
+            let n = hops(order, source, target);
+            if out.len() <= n {
+                return Answer::Refused(Refusal::NoRoom);
+            }
+            write(order, source, target, n, out);
+            Answer::Value(n as u64)
+        }
+        Checked::Refused(why) => Answer::Refused(why),
+    }
+}
+
+// The same of a source in block b, slot p and a target in block c, slot q; a part out of range is refused 2 or 5.
+pub fn route_parts(order: Order, b: Block, p: Slot, c: Block, q: Slot, out: &mut [u64]) -> Answer
+    ensures { λ r. ⌜ answerTold r ≡ routeTold (order .0) (specs.named (order .0) (b .0) (p .0)) (specs.named (order .0) (c .0) (q .0)) (length (now (out .entry))) ⌝ }
+    ensures { λ r. ⌜ now (out .exit) ≡ routeLeaves (order .0) (specs.named (order .0) (b .0) (p .0)) (specs.named (order .0) (c .0) (q .0)) (now (out .entry)) ⌝ }
+{
+    route(
+        order,
+        parts::named(order, b, p),
+        parts::named(order, c, q),
+        out,
+    )
+}

@@ -1,0 +1,100 @@
+// The next hop.
+ghost use mathlib.Core.Path.{_≡_};
+ghost use Prim.Native.Nat.{_<_};
+ghost use Rattle.answers.specs.Told.{answerTold};
+ghost use Rattle.two.specs.Two as specs;
+ghost use Rattle.two.specs.Next as next;
+ghost use Rattle.two.specs.Told.{nextTold};
+ghost use Rattle.two.specs.Post.{Apart, Slots, Between, Pair};
+ghost use Rattle.two.specs.Refusals.{Fine};
+use crate::parts;
+use crate::parts::Block;
+use crate::parts::Slot;
+use crate::sizes::Order;
+use answers::Answer;
+use answers::Checked;
+
+// Of the bits in which two blocks differ, the one to correct first: the slot at which to cross. The order of block bits is here alone.
+fn crossing(order: Order, x: u64) -> Slot
+    requires { ⌜ Apart (order .0) x ⌝ }
+    ensures { λ r. ⌜ r .0 ≡ next.crossing (order .0) x ⌝ }
+{
+    Slot(bits::lowest(x) as u64)
+}
+
+// The slot after p on the way to q in one block: the lowest bit that differs is corrected.
+fn toward(order: Order, p: Slot, q: Slot) -> Slot
+    requires { ⌜ Slots (order .0) (p .0) (q .0) ⌝ }
+    ensures { λ r. ⌜ r .0 ≡ next.toward (order .0) (p .0) (q .0) ⌝ }
+{
+    if p.0 == q.0 {
+        return p;
+    }
+    Slot(bits::flip(p.0, bits::lowest(p.0 ^ q.0)))
+}
+
+// The slot to walk to, from block b towards block c, slot q.
+fn heading(order: Order, b: Block, c: Block, q: Slot) -> Slot
+    requires { ⌜ Between (order .0) (b .0) (c .0) ⌝ }
+    ensures { λ r. ⌜ r .0 ≡ next.heading (order .0) (b .0) (c .0) (q .0) ⌝ }
+{
+    if b.0 == c.0 {
+        return q;
+    }
+    crossing(order, b.0 ^ c.0)
+}
+
+// The block after block b, slot p on the way to block c, where the slot walks to h.
+fn crossed(b: Block, p: Slot, c: Block, h: Slot) -> Block
+    requires { ⌜ p .0 < 32 ⌝ }
+    ensures { λ r. ⌜ r .0 ≡ next.crossed (b .0) (p .0) (c .0) (h .0) ⌝ }
+{
+    if b.0 == c.0 {
+        return b;
+    }
+    if p.0 == h.0 {
+        return Block(bits::flip(b.0, p.0 as u32));
+    }
+    b
+}
+
+// The number of the relay after block b, slot p on the way to block c, slot q.
+pub fn step(order: Order, b: Block, p: Slot, c: Block, q: Slot) -> u64
+    requires { ⌜ Pair (order .0) (b .0) (p .0) (c .0) (q .0) ⌝ }
+    ensures { λ r. ⌜ r ≡ next.step (order .0) (b .0) (p .0) (c .0) (q .0) ⌝ }
+{
+    let h = heading(order, b, c, q);
+    parts::relay_of(order, crossed(b, p, c, h), toward(order, p, h))
+}
+
+// The relay after u on the way to t.
+pub fn hop(order: Order, u: u64, t: u64) -> u64
+    requires { ⌜ Fine (order .0) u t ⌝ }
+    ensures { λ r. ⌜ r ≡ next.next (order .0) u t ⌝ }
+{
+    step(
+        order,
+        parts::block_of(order, u),
+        parts::slot_of(order, u),
+        parts::block_of(order, t),
+        parts::slot_of(order, t),
+    )
+}
+
+// The relay after source on the way to target, and target itself where they are the same: `next_hop(Order(2), 0, 23)` is 4.
+// Refuses with 1, 2, 5.
+pub fn next_hop(order: Order, source: u64, target: u64) -> Answer
+    ensures { λ r. ⌜ answerTold r ≡ nextTold (order .0) source target ⌝ }
+{
+    match parts::checked(order, source, target) {
+        Checked::Fine => Answer::Value(hop(order, source, target)),
+        Checked::Refused(why) => Answer::Refused(why),
+    }
+}
+
+// The same of a source in block b, slot p and a target in block c, slot q; a part out of range is refused 2 or 5.
+pub fn next_hop_parts(order: Order, b: Block, p: Slot, c: Block, q: Slot) -> Answer
+    ensures { λ r. ⌜ answerTold r ≡ nextTold (order .0) (specs.named (order .0) (b .0) (p .0)) (specs.named (order .0) (c .0) (q .0)) ⌝ }
+{
+    next_hop(order, parts::named(order, b, p), parts::named(order, c, q))
+}
