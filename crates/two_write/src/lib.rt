@@ -39,7 +39,7 @@ pub fn base(m: u32, b: u64) -> u64
 }
 
 // Writes the relays of block b from the slot p, where it is entered, to the slot q, and returns the place after them.
-fn write_block(m: u32, b: u64, p: u64, q: u64, at: usize, out: &mut [u64]) -> usize
+pub fn write_block(m: u32, b: u64, p: u64, q: u64, at: usize, out: &mut [u64]) -> usize
     requires { ⌜ (m ≤ 5) × (b < 2 ^ (2 ^ m)) × (p < 2 ^ m) × (q < 2 ^ m) × (at + suc m ≤ length (now out)) ⌝ }
     ensures { λ r. ⌜ Entered m b p q at (now (out .entry)) (now (out .exit)) r ⌝ }
 {

@@ -1,0 +1,102 @@
+// The block path through the door p0, where it ends in a crowd: a target of that crowd takes it over.
+
+// A tail: slots of a block, `len` of them, to the target `who`.
+pub struct Tail {
+    pub who: u32,
+    pub len: usize,
+    pub slots: [u64; 8],
+}
+
+// Who takes the block path of a row over (8: nobody), by which slot it enters its last block, and its tail there.
+pub struct Taken {
+    pub who: u32,
+    pub row: usize,
+    pub enter: u32,
+    pub len: usize,
+    pub tail: [u64; 8],
+}
+
+// The crowd whose block path begins with the block `front`, or 8.
+fn crowd_by(reps: u64, front: u64, grid: &[u64; 1120]) -> u32 {
+    let mut todo = reps;
+    while todo != 0 {
+        let r = bits::lowest(todo);
+        if grid::first(grid, 8 + r as usize) == front {
+            return r;
+        }
+        todo = bits::flip(todo, r);
+    }
+    8
+}
+
+// The slot by which the last block of a row is entered.
+fn enter_by(grid: &[u64; 1120], row: usize, p0: u32) -> u32 {
+    let n = grid[row * 35] as usize;
+    if n == 1 {
+        return p0;
+    }
+    bits::lowest(two_write::hop(grid, row, n - 2) ^ two_write::hop(grid, row, n - 1))
+}
+
+// Whether a target at (block, slot) is gated, stands in block b, and has its slot or its gate slot at x.
+fn meets(block: u64, slot: u32, gate: u32, gated: bool, b: u64, x: u32) -> bool {
+    if !gated {
+        return false;
+    }
+    if block != b {
+        return false;
+    }
+    if gate == x {
+        return true;
+    }
+    slot == x
+}
+
+// The gated target of block b whose slot or gate slot is x, or 8.
+fn met(blocks: [u64; 8], slots: [u32; 8], gates: [u32; 8], gated: u64, k: u32, b: u64, x: u32) -> u32 {
+    let mut i: u32 = 0;
+    while i < k {
+        if meets(blocks[i as usize], slots[i as usize], gates[i as usize], bits::bit(gated, i), b, x) {
+            return i;
+        }
+        i += 1;
+    }
+    8
+}
+
+// The slot after `here` on the way to `to`.
+fn step(here: u32, to: u32) -> u32 {
+    here ^ (1 << bits::lowest((here ^ to) as u64))
+}
+
+// The walk from the slot `enter` of block b towards the slot `to`, up to the first gated target that it meets.
+fn tail_of(blocks: [u64; 8], slots: [u32; 8], gates: [u32; 8], gated: u64, k: u32, b: u64, enter: u32, to: u32) -> Tail {
+    let mut tail = [0u64; 8];
+    tail[0] = enter as u64;
+    let mut len: usize = 1;
+    let mut here = enter;
+    let mut who = met(blocks, slots, gates, gated, k, b, here);
+    while who == 8 {
+        here = step(here, to);
+        tail[len] = here as u64;
+        len += 1;
+        who = met(blocks, slots, gates, gated, k, b, here);
+    }
+    if slots[who as usize] != here {
+        tail[len] = slots[who as usize] as u64;
+        len += 1;
+    }
+    Tail { who, len, slots: tail }
+}
+
+pub fn take_over(m: u32, s0: u64, p0: u32, k: u32, blocks: [u64; 8], slots: [u32; 8], gates: [u32; 8], gated: u64, reps: u64, grid: &[u64; 1120]) -> Taken {
+    let r = crowd_by(reps, bits::flip(s0, p0), grid);
+    if r == 8 {
+        return Taken { who: 8, row: 0, enter: 0, len: 0, tail: [0u64; 8] };
+    }
+    let row = 8 + r as usize;
+    let enter = enter_by(grid, row, p0);
+    let t = tail_of(blocks, slots, gates, gated, k, blocks[r as usize], enter, slots[r as usize]);
+    let tail = t.slots;
+    Taken { who: t.who, row, enter, len: t.len, tail }
+}
