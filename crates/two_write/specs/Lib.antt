@@ -2,3 +2,4 @@
 pub mod Walked
 pub mod Blocks
 pub mod Slots
+pub mod Rows
