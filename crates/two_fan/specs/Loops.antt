@@ -142,6 +142,30 @@ crosses-more m b p g q e (c ∷ r) l w k s = (
   ap (λ (y : List Relay). y ++ inside (flip g q) (q ∷ w)) (k .6) ∙ append-assoc (inside c (p ∷ k .1)) (k .2) (inside (flip g q) (q ∷ w)),
 )
 
+-- where a path that follows blocks ends
+abbrev pub last : ℕ → List ℕ → ℕ
+last u [] = u
+last u (v ∷ l) = last v l
+
+pub crosses-last : (m b p g q : ℕ) (r : List ℕ) (l : List Relay) → Crosses m b p g q r l → last b r ≡ g
+crosses-last m b p g q [] l k = k .0
+crosses-last m b p g q (c ∷ r) l k = crosses-last m c (k .0) g q r (k .2) (k .5)
+
+pub walk-last : (free u t : ℕ) (l : List ℕ) → Walk free u t l → last u l ≡ t
+walk-last free u t [] w = w
+walk-last free u t (v ∷ l) w = walk-last free v t l (w .3)
+
+pub last-append : (u v : ℕ) (l : List ℕ) → last u (l ++ (v ∷ [])) ≡ v
+last-append u v [] = refl
+last-append u v (x ∷ l) = last-append x v l
+
+-- a walk ends with its last hop: all but the last relay, the last, and the door between
+pub walk-split : (free u t v : ℕ) (l : List ℕ) → Walk free u t (v ∷ l) → (r : List ℕ) × (d : ℕ) × (bit d free ≡ 1) × (v ∷ l ≡ r ++ (t ∷ [])) × (t ≡ flip (last u r) d)
+walk-split free u t v [] w = ([], w .0, w .1, ap (λ (y : ℕ). y ∷ []) (w .3), sym (w .3) ∙ w .2)
+walk-split free u t v (x ∷ l) w =
+    let r = walk-split free v t x l (w .3) in
+    (v ∷ r .0, r .1, r .2, ap (λ (y : List ℕ). v ∷ y) (r .3), r .4)
+
 -- the hop after the first i of a walk
 pub walk-hop : (free u t i : ℕ) (l : List ℕ) → Walk free u t l → i < length l → (d : ℕ) × (bit d free ≡ 1) × (getD l i 0 ≡ flip (getD (u ∷ l) i 0) d)
 walk-hop free u t i [] w h = absurd (omega arith)

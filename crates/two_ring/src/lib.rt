@@ -2,6 +2,7 @@
 
 // The relay at each place of the ring, and the place of each relay.
 const RING: [u64; 8] = [0, 1, 5, 4, 6, 7, 3, 2];
+
 const SPOT: [u64; 8] = [0, 1, 7, 6, 3, 2, 4, 5];
 
 // How far right of the source the target is.

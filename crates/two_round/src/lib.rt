@@ -23,11 +23,17 @@ fn find(grid: &[u64; 1120], m: u32, x: u64) -> Spot {
     while y < m as usize {
         let i = place_in(grid, y, x);
         if i < 34 {
-            return Spot { row: y, hops: i + 1 };
+            return Spot {
+                row: y,
+                hops: i + 1,
+            };
         }
         y += 1;
     }
-    Spot { row: m as usize, hops: 0 }
+    Spot {
+        row: m as usize,
+        hops: 0,
+    }
 }
 
 // Writes the first n slots of a row.
@@ -52,7 +58,14 @@ fn write_round(m: u32, source: u64, s0: u64, p0: u64, a: u64, at: usize, out: &m
     (r - at) as u64
 }
 
-pub fn plan(m: u32, source: u64, targets: &[u64], w: usize, places: &mut [u64], counts: &mut [u64]) {
+pub fn plan(
+    m: u32,
+    source: u64,
+    targets: &[u64],
+    w: usize,
+    places: &mut [u64],
+    counts: &mut [u64],
+) {
     let size = grid::pow(m);
     let s0 = source >> m;
     let p0 = source % size;

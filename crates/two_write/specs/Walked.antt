@@ -76,7 +76,7 @@ pub sets-append : (l : List ℕ) (i : ℕ) (xs ys : List ℕ) → sets l i (xs +
 sets-append l i [] ys = rw add-zero
 sets-append l i (x ∷ xs) ys = rw (add-suc, ← suc-add) (sets-append (set l i x) (suc i) xs ys)
 
-dim-below : (m u q d : ℕ) → u < 2 ^ m → q < 2 ^ m → bit d u ≢ bit d q → d < m
+pub dim-below : (m u q d : ℕ) → u < 2 ^ m → q < 2 ^ m → bit d u ≢ bit d q → d < m
 dim-below m u q d hu hq ne = ⊎-elim (λ h. h) (λ g. absurd (ne (bit-high m d u hu g ∙ sym (bit-high m d q hq g)))) (lt-or-le d m)
 
 -- how far it is, at most
