@@ -7,6 +7,7 @@ ghost use Rattle.two_gate.specs.Post.{Tells};
 ghost use Rattle.two_write.specs.Walked.{Next};
 ghost use Rattle.two_taken.specs.Over.{at, Crowds, CrowdBy, LastAsk, Enters, Met};
 ghost use Rattle.two_taken.specs.Tail.{TailAsk, Tailed};
+ghost use Rattle.two_taken.specs.TakeOver.{OverAsk, Over};
 ghost use lib.ListN.{take};
 
 // A tail: slots of a block, `len` of them, to the target `who`.
@@ -108,7 +109,17 @@ fn enter_by(m: u32, s0: u64, p0: u32, end: u64, grid: &[u64; 1120], row: usize) 
 }
 
 // The walk from the slot `enter` of block b towards the slot `to`, up to the first gated target that it meets.
-fn tail_of(m: u32, blocks: [u64; 8], slots: [u32; 8], gates: [u32; 8], gated: u64, k: u32, b: u64, enter: u32, to: u32) -> Tail
+fn tail_of(
+    m: u32,
+    blocks: [u64; 8],
+    slots: [u32; 8],
+    gates: [u32; 8],
+    gated: u64,
+    k: u32,
+    b: u64,
+    enter: u32,
+    to: u32,
+) -> Tail
     requires { ⌜ TailAsk m k (at blocks) (at slots) (at gates) gated b enter to ⌝ }
     ensures { λ r. ⌜ Tailed m k (at blocks) (at slots) (at gates) gated b enter (r .who) (take (r .len) (r .slots)) × (r .len ≤ 7) ⌝ }
 {
@@ -136,5 +147,55 @@ fn tail_of(m: u32, blocks: [u64; 8], slots: [u32; 8], gates: [u32; 8], gated: u6
         who,
         len: len + 1,
         slots: tail,
+    }
+}
+
+// Whether the block path through p0 ends in a crowd, and who takes it over then.
+pub fn take_over(
+    m: u32,
+    s0: u64,
+    p0: u32,
+    k: u32,
+    blocks: [u64; 8],
+    slots: [u32; 8],
+    gates: [u32; 8],
+    gated: u64,
+    reps: u64,
+    grid: &[u64; 1120],
+) -> Taken
+    requires { ⌜ OverAsk m s0 p0 k blocks slots gates gated reps (now grid) ⌝ }
+    ensures { λ r. ⌜ Over m s0 p0 k blocks slots gates gated reps (now (grid .entry)) (r .who) (r .row) (r .enter) (r .len) (r .tail) ⌝ }
+{
+    let r = crowd_by(reps, bits::flip(s0, p0), grid);
+    if r == 8 {
+        return Taken {
+            who: 8,
+            row: 0,
+            enter: 0,
+            len: 0,
+            tail: [0u64; 8],
+        };
+    }
+    let row = 8 + r as usize;
+    let b = blocks[r as usize];
+    let enter = enter_by(m, s0, p0, b, grid, row);
+    let t = tail_of(
+        m,
+        blocks,
+        slots,
+        gates,
+        gated,
+        k,
+        b,
+        enter,
+        slots[r as usize],
+    );
+    let tail = t.slots;
+    Taken {
+        who: t.who,
+        row,
+        enter,
+        len: t.len,
+        tail,
     }
 }

@@ -18,9 +18,9 @@ returns-3 c = tells-yes (not-false _ (c .before .before .if1 .left), c .before .
 
 returns-4 : tie.Need-returns-4
 returns-4 c = record {
-      so = λ t. (not-false _ (c .before .before .if1 .left), c .before .if2 .left, inr (sym (eqb-true _ _ t)));
-      not = λ f z. ⊎-elim (λ e. c .if3 .left (sym e)) (λ e. eqb-false _ _ f (sym e)) (z .2);
-    }
+  so = λ t. (not-false _ (c .before .before .if1 .left), c .before .if2 .left, inr (sym (eqb-true _ _ t)));
+  not = λ f z. ⊎-elim (λ e. c .if3 .left (sym e)) (λ e. eqb-false _ _ f (sym e)) (z .2);
+}
 
 pub meets-spec : {M : Type 1} → statement M
 meets-spec = tie.close (tie.spec returns returns-2 returns-3 returns-4)

@@ -67,9 +67,11 @@ loop-less c = search needs
 loop-again : tie.Need-loop-again Inv-loop μ-loop
 loop-again c =
     let l = c .before .before .before .before in
-    let a = l .before .args in
-    (omega arith, none-more (Meets (at (a .t1)) (at (a .t2)) (at (a .t3)) (a .gated) (a .b) (a .x)) (l .loop .i) (l .loop .inv .1)
-    (meets-to (at (a .t1)) (at (a .t2)) (at (a .t3)) (a .gated) (a .b) (a .x) (l .loop .i) (c .before .before .bit .ensures) (c .before .meets .ensures) .not (c .if1 .left)))
+    let a = l .before .args in (
+      omega arith,
+      none-more (Meets (at (a .t1)) (at (a .t2)) (at (a .t3)) (a .gated) (a .b) (a .x)) (l .loop .i) (l .loop .inv .1)
+          (meets-to (at (a .t1)) (at (a .t2)) (at (a .t3)) (a .gated) (a .b) (a .x) (l .loop .i) (c .before .before .bit .ensures) (c .before .meets .ensures) .not (c .if1 .left)),
+    )
 
 returns-2 : tie.Need-returns-2 Inv-loop μ-loop
 returns-2 c = record { found = λ ne. absurd (ne refl); none = λ e (i, h, m). c .before .loop .inv .1 i (omega arith) m }
