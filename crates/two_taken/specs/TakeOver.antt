@@ -4,7 +4,7 @@ use mathlib.Core.Path.{_≡_, refl, sym, ap, _∙_, subst}
 use mathlib.Core.Logic.{inr, _≢_}
 use mathlib.Core.List.{List, _∷_}
 use native.Mathlib.Omega.{arith}
-use lib.ListN.{take}
+use lib.ListN.{length, take}
 use Rattle.bits.specs.Bit.{bit, flip}
 use Rattle.doors.specs.Doors.{Walk}
 use Rattle.grid.specs.Grid.{hops}
@@ -30,6 +30,7 @@ pub record Takes (m s0 p0 k : ℕ) (blocks slots gates : List ℕ) (gated reps :
   pub enters : Enters m s0 (at blocks r) g (8 + r) enter
   pub tailed : Tailed m k (at blocks) (at slots) (at gates) gated (at blocks r) enter who (take len tail)
   pub few : len ≤ 7
+  pub long : length tail ≡ 8
 
 pub record Over (m s0 p0 k : ℕ) (blocks slots gates : List ℕ) (gated reps : ℕ) (g : List ℕ) (who row enter len : ℕ) (tail : List ℕ) : Type 0 where
   pub nobody : who ≡ 8 → (q : ℕ) (l : List ℕ) → bit q reps ≡ 1 → hops g (8 + q) ≡ flip s0 p0 ∷ l → ⊥
@@ -72,8 +73,8 @@ module _ {m s0 p0 k : ℕ} {blocks slots gates : List ℕ} {gated reps : ℕ} {g
         }
 
     pub over-some : {enter who len : ℕ} {tail : List ℕ} → Enters m s0 (at blocks r) g (8 + r) enter
-        → Tailed m k (at blocks) (at slots) (at gates) gated (at blocks r) enter who (take len tail) → len ≤ 7 → Over m s0 p0 k blocks slots gates gated reps g who (8 + r) enter len tail
-    over-some n t h = record {
+        → Tailed m k (at blocks) (at slots) (at gates) gated (at blocks r) enter who (take len tail) → len ≤ 7 → length tail ≡ 8 → Over m s0 p0 k blocks slots gates gated reps g who (8 + r) enter len tail
+    over-some n t h q = record {
       nobody = λ z. absurd (omega (arith, t .within, a .few));
       someone = λ w. record {
         r = r;
@@ -84,5 +85,6 @@ module _ {m s0 p0 k : ℕ} {blocks slots gates : List ℕ} {gated reps : ℕ} {g
         enters = n;
         tailed = t;
         few = h;
+        long = q;
       };
     }

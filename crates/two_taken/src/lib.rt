@@ -8,7 +8,7 @@ ghost use Rattle.two_write.specs.Walked.{Next};
 ghost use Rattle.two_taken.specs.Over.{at, Crowds, CrowdBy, LastAsk, Enters, Met};
 ghost use Rattle.two_taken.specs.Tail.{TailAsk, Tailed};
 ghost use Rattle.two_taken.specs.TakeOver.{OverAsk, Over};
-ghost use lib.ListN.{take};
+ghost use lib.ListN.{length, take};
 
 // A tail: slots of a block, `len` of them, to the target `who`.
 pub struct Tail {
@@ -121,7 +121,7 @@ fn tail_of(
     to: u32,
 ) -> Tail
     requires { ⌜ TailAsk m k (at blocks) (at slots) (at gates) gated b enter to ⌝ }
-    ensures { λ r. ⌜ Tailed m k (at blocks) (at slots) (at gates) gated b enter (r .who) (take (r .len) (r .slots)) × (r .len ≤ 7) ⌝ }
+    ensures { λ r. ⌜ Tailed m k (at blocks) (at slots) (at gates) gated b enter (r .who) (take (r .len) (r .slots)) × (r .len ≤ 7) × (length (r .slots) ≡ 8) ⌝ }
 {
     let mut tail = [0u64; 8];
     tail[0] = enter as u64;

@@ -74,13 +74,17 @@ entered {m} {b} {p} {q} {at} {was} {now} {r} first e w₁ =
 
 -- ---- all blocks
 
+-- the row is a walk through blocks
+pub record Goes (m s0 : ℕ) (g : List ℕ) (row : ℕ) : Type 0 where
+  pub end : ℕ
+  pub walk : Walk (2 ^ (2 ^ m) - 1) s0 end (hops g row)
+  pub few : length (hops g row) < 34
+
 -- what may be asked: the first n blocks of the row, from s0 by the slot `leave`, to the slot `last` of the last of them
 pub record Ways (m s0 : ℕ) (g : List ℕ) (row n leave last at size : ℕ) : Type 0 where
   pub order : m ≤ 5
   pub home : s0 < 2 ^ (2 ^ m)
-  pub end : ℕ
-  pub walk : Walk (2 ^ (2 ^ m) - 1) s0 end (hops g row)
-  pub few : length (hops g row) < 34
+  pub goes : 0 < n → Goes m s0 g row
   pub some : n ≤ length (hops g row)
   pub row-in : row < 32
   pub long : length g ≡ 1120
@@ -118,12 +122,19 @@ pub record Crossing (m s0 : ℕ) (g : List ℕ) (row n leave last at : ℕ) (was
 
 module _ {m s0 : ℕ} {g : List ℕ} {row n leave last at size : ℕ} (w : Ways m s0 g row n leave last at size) where
   pub crossing-block : (i : ℕ) → i < n → getD (hops g row) i 0 < 2 ^ (2 ^ m)
-  crossing-block i h = walk-below (2 ^ m) (2 ^ (2 ^ m) - 1) s0 (w .end) (hops g row) (full-below (2 ^ m)) (w .home) (w .walk) (getD (hops g row) i 0) (in-at (hops g row) 0 i (omega (arith, w .some)))
+  crossing-block i h =
+      let r = w .goes (omega arith) in
+      walk-below (2 ^ m) (2 ^ (2 ^ m) - 1) s0 (r .end) (hops g row) (full-below (2 ^ m)) (w .home) (r .walk) (getD (hops g row) i 0) (in-at (hops g row) 0 i (omega (arith, w .some)))
+
+  -- what reading a relay of the row asks
+  pub hop-ask : (i : ℕ) → i < n → (row < 32) × (length g ≡ 1120) × (length (hops g row) < 34) × (i < length (hops g row))
+  hop-ask i h = (w .row-in, w .long, w .goes (omega arith) .few, omega (arith, w .some))
 
   -- the next block is behind a door of block i
   next-door : (i : ℕ) → i + 1 < n → (d : ℕ) × (d < 2 ^ m) × (getD (hops g row) (i + 1) 0 ≡ flip (getD (hops g row) i 0) d)
   next-door i h =
-      let x = walk-hop (2 ^ (2 ^ m) - 1) s0 (w .end) (i + 1) (hops g row) (w .walk) (omega (arith, w .some)) in
+      let r = w .goes (omega arith) in
+      let x = walk-hop (2 ^ (2 ^ m) - 1) s0 (r .end) (i + 1) (hops g row) (r .walk) (omega (arith, w .some)) in
       (x .0, full-below (2 ^ m) (x .0) (x .1), x .2 ∙ ap (λ (y : ℕ). flip (getD (s0 ∷ hops g row) y 0) (x .0)) (add-one i))
 
   pub next-differs : (i x y : ℕ) → i + 1 < n → x ≡ getD (hops g row) i 0 → y ≡ getD (hops g row) (i + 1) 0 → bitXor x y ≢ 0

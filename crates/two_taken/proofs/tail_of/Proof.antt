@@ -1,5 +1,6 @@
 -- `two_taken::tail_of` meets its contract: the invariant is `Tailing`. Assumes nothing.
 use mathlib.Core.Path.{refl}
+use lib.ListN.{length-set}
 use native.Mathlib.Omega.{arith}
 use Rattle.doors.specs.Single.{rank}
 use Rattle.two_write.specs.Blocks.{order-small}
@@ -58,7 +59,7 @@ array-read-slot : tie.Need-array-read-slot Inv-loop μ-loop
 array-read-slot c = who-small (c .before .before .before .pre) (c .before .loop .inv) (c .loop-test .left)
 
 returns : tie.Need-returns Inv-loop μ-loop
-returns c = (tailed-there (c .before .before .before .before .pre) (c .before .before .loop .inv) (c .before .loop-test .left) (c .if1 .taken), omega (arith, tail-short (c .before .before .before .before .pre) (c .before .before .loop .inv)))
+returns c = (tailed-there (c .before .before .before .before .pre) (c .before .before .loop .inv) (c .before .loop-test .left) (c .if1 .taken), omega (arith, tail-short (c .before .before .before .before .pre) (c .before .before .loop .inv)), c .before .before .loop .inv .long)
 
 cast-tail-2 : tie.Need-cast-tail-2 Inv-loop μ-loop
 cast-tail-2 c = omega (arith, c .before .before .before .before .pre .slots _ (c .before .before .loop .inv .met .found (c .before .loop-test .left) .0), order-small (c .before .before .before .before .pre .order))
@@ -73,7 +74,7 @@ add-t27 : tie.Need-add-t27 Inv-loop μ-loop
 add-t27 c = omega (arith, tail-short (c .before .before .before .before .pre) (c .before .before .loop .inv))
 
 returns-2 : tie.Need-returns-2 Inv-loop μ-loop
-returns-2 c = (tailed-step (c .before .before .before .before .pre) (c .before .before .loop .inv) (c .before .loop-test .left) (c .if1 .left), omega (arith, tail-short (c .before .before .before .before .pre) (c .before .before .loop .inv)))
+returns-2 c = (tailed-step (c .before .before .before .before .pre) (c .before .before .loop .inv) (c .before .loop-test .left) (c .if1 .left), omega (arith, tail-short (c .before .before .before .before .pre) (c .before .before .loop .inv)), simp length-set (c .before .before .loop .inv .long))
 
 pub tail-of-spec : {M : Type 1} → statement M
 tail-of-spec =

@@ -45,7 +45,7 @@ tail-of-requires : tie.Need-tail-of-requires
 tail-of-requires c κs = tail-ask (c .before .before .before .before .pre) (c .before .before .before .flip .ensures) (c .before .before .crowd-by .ensures) (c .before .if1 .left) (c .enter-by .ensures)
 
 returns-2 : tie.Need-returns-2
-returns-2 c = over-some (c .before .before .before .before .before .before .pre) (c .before .before .before .before .before .flip .ensures) (c .before .before .before .before .crowd-by .ensures) (c .before .before .before .if1 .left) (c .before .before .enter-by .ensures) (c .before .tail-of .ensures .0) (c .before .tail-of .ensures .1)
+returns-2 c = over-some (c .before .before .before .before .before .before .pre) (c .before .before .before .before .before .flip .ensures) (c .before .before .before .before .crowd-by .ensures) (c .before .before .before .if1 .left) (c .before .before .enter-by .ensures) (c .before .tail-of .ensures .0) (c .before .tail-of .ensures .1) (c .before .tail-of .ensures .2)
 
 pub take-over-spec : {M : Type 1} → statement M
 take-over-spec =

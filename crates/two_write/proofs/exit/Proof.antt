@@ -1,6 +1,6 @@
 -- `two_write::exit` meets its contract. Assumes nothing.
 use native.Mathlib.Omega.{arith}
-use Rattle.two_write.specs.Blocks.{exit-last, exit-door, next-differs}
+use Rattle.two_write.specs.Blocks.{exit-last, exit-door, next-differs, hop-ask}
 use borrow.Author.Needs.{needs}
 use Rattle.two_write.proofs.exit.Statement.{statement}
 use Rattle.two_write.proofs.exit.Tie as tie
@@ -12,13 +12,13 @@ returns : tie.Need-returns
 returns c = exit-last (c .before .pre .1 .2) (c .before .args .i) (c .if1 .taken)
 
 hop-requires : tie.Need-hop-requires
-hop-requires c κs = search needs
+hop-requires c κs = hop-ask (c .before .pre .1 .2) (c .before .args .i) (c .before .pre .0)
 
 add-hop : tie.Need-add-hop
 add-hop c = search needs
 
 hop-requires-2 : tie.Need-hop-requires-2
-hop-requires-2 c κs = search needs
+hop-requires-2 c κs = hop-ask (c .before .before .pre .1 .2) _ (omega arith)
 
 lowest-requires : tie.Need-lowest-requires
 lowest-requires c κs =

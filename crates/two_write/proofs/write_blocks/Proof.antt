@@ -2,7 +2,7 @@
 use Prim.Native.Nat.{ℕ, _-_, _^_, _<_}
 use mathlib.Core.Path.{_≡_, _∙_, sym, subst}
 use native.Mathlib.Omega.{arith}
-use Rattle.two_write.specs.Blocks.{Crossing, crossing-none, crossing-room, crossing-block, crossing-more, crossing-done}
+use Rattle.two_write.specs.Blocks.{Crossing, hop-ask, crossing-none, crossing-room, crossing-block, crossing-more, crossing-done}
 use borrow.Author.Needs.{needs}
 use Rattle.two_write.proofs.write_blocks.Statement.{statement}
 use Rattle.two_write.proofs.write_blocks.Tie as tie
@@ -20,7 +20,7 @@ exit-requires : tie.Need-exit-requires Inv-loop μ-loop
 exit-requires c κs = (c .loop-test .taken, (_, _, c .before .before .before .pre))
 
 hop-requires : tie.Need-hop-requires Inv-loop μ-loop
-hop-requires c κs = search needs
+hop-requires c κs = hop-ask (c .before .before .before .before .pre) _ (c .before .loop-test .taken)
 
 write-block-requires : tie.Need-write-block-requires Inv-loop μ-loop
 write-block-requires c κs =

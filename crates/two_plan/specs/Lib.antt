@@ -1,0 +1,4 @@
+-- The two-level planner: what its parts give, and how they make a fan.
+pub mod Draft
+pub mod Legs
+pub mod TakenLeg
