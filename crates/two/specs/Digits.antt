@@ -3,15 +3,14 @@
 -- `gather-bit`, `gather-lt`: a number made of its bits. `shuffled-xor`, `shuffled-pow`, `shuffled-same`: moving each bit from p to
 -- p xor b keeps the xor of two numbers, takes 2 ^ p to 2 ^ (p xor b), and leaves different numbers different.
 use Prim.Native.Nat.{ℕ, zero, suc, _+_, _-_, _*_, _/_, _%_, _^_, _≤_, _<_}
-use mathlib.Core.Path.{_≡_, refl, sym, ap, ap₂, _∙_, subst}
-use mathlib.Core.Logic.{_⊎_, inl, inr, ⊎-elim, _≢_}
+use mathlib.Core.Path.{_≡_, refl, sym, ap, ap₂, _∙_}
+use mathlib.Core.Logic.{_⊎_, inl, inr, ⊎-elim}
 use native.Mathlib.Nat.{pow-suc, zero-mul, one-mul, lt-of-lt-of-le}
 use native.Mathlib.Omega.{arith}
 use native.Mathlib.Decide.{ℕ-discrete}
-use lib.Arith.{lt-one, digits-div, digits-mod}
+use lib.Arith.{lt-one, digits-div}
 use lib.Pow.{pow-pos, pow-lt, pow-mono}
-use lib.Bits.{bitXor, differ, xor-comm, xor-self, xor-zero-l, xor-lt}
-use lib.Count.{ones}
+use lib.Bits.{bitXor, differ, xor-comm, xor-lt}
 use Rattle.bits.specs.Bit.{bit, flip, Lowest}
 use Rattle.bits.specs.Laws.{bit-lt, bit-suc, bit-none, bit-xor, bit-pow-same, bit-pow-other, clash, lt-or, lt-or-le, same-bits, xor-assoc, xor-back}
 use Rattle.two.specs.Seen.{gather, shuffled}

@@ -14,3 +14,4 @@ pub mod Told
 pub mod Refusals
 pub mod Post
 pub mod Cases
+pub mod Unique

@@ -1,24 +1,22 @@
 -- The links of the two-level mesh. `joined-link`, `link-joined`: what the test of a link says of blocks and slots. `linked-sym`: links go
 -- both ways. `near`: the m + 1 relays that a relay is linked to, all different (`near-linked`, `linked-near`, `near-differ`); so a relay
 -- has exactly m + 1 links (`links-count`). Assumes nothing.
-use Prim.Native.Nat.{ℕ, zero, suc, _+_, _*_, _/_, _%_, _^_, _≤_, _<_}
+use Prim.Native.Nat.{ℕ, _^_, _<_}
 use mathlib.Core.Path.{_≡_, refl, sym, ap, ap₂, _∙_, subst}
 use mathlib.Core.Bool.{Bool, true, false, _&&_, _||_, and-false, or-false}
 use mathlib.Core.Logic.{_⊎_, inl, inr, ⊎-elim, _≢_}
 use native.Mathlib.Omega.{arith}
-use native.Mathlib.Decide.{ℕ-discrete}
 use lib.Bits.{bitXor, xor-comm, xor-lt, xor-self}
 use lib.Count.{ones}
 use lib.Dec.{eqb}
 use lib.Pow.{pow-pos}
 use borrow.Author.Tests.{eqb-true, eq-eqb, ne-eqb}
-use Rattle.bits.specs.Bit.{bit, flip}
-use Rattle.bits.specs.Laws.{bit-lt, flip-same, flip-other, flip-lt, ones-one, ones-pow}
-use Rattle.scan.specs.Scan.{pick}
-use Rattle.scan.specs.Laws.{true-or, true-false}
-use Rattle.two.specs.Two.{slots, blocks, relays, blockOf, slotOf, relay, joined, linked}
+use Rattle.bits.specs.Bit.{flip}
+use Rattle.bits.specs.Laws.{flip-lt, ones-one, ones-pow}
+use Rattle.scan.specs.Laws.{true-false}
+use Rattle.two.specs.Two.{slots, blocks, blockOf, slotOf, relay, joined, linked}
 use Rattle.two.specs.Digits.{xor-flip, flip-is-xor}
-use Rattle.two.specs.Parts.{block-relay, slot-relay, relay-parts, relay-below, block-below, slot-below, same-parts}
+use Rattle.two.specs.Parts.{block-relay, slot-relay, slot-below}
 
 -- ---- truth
 

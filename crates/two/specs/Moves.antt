@@ -1,9 +1,9 @@
 -- The mesh as a relay sees it: links are kept both ways (`seen-joined`, `seen-linked`), the relay itself becomes relay 0 (`seen-home`), and
--- each relay is seen as one relay and each is one so seen (`seen-below`, `seen-unseen`, `unseen-below`). Assumes nothing.
-use Prim.Native.Nat.{ℕ, _+_, _*_, _^_, _<_}
-use mathlib.Core.Path.{_≡_, refl, sym, ap, ap₂, _∙_}
-use mathlib.Core.Bool.{Bool, true, _&&_, _||_}
-use native.Mathlib.Nat.{zero-mul, zero-add}
+-- each relay is seen as one relay and each is one so seen (`seen-below`, `unseen-below`, `seen-unseen`, `unseen-seen`). Assumes nothing.
+use Prim.Native.Nat.{ℕ, _+_, _^_, _<_}
+use mathlib.Core.Path.{_≡_, sym, ap, ap₂, _∙_}
+use mathlib.Core.Bool.{Bool, _&&_, _||_}
+use native.Mathlib.Nat.{zero-mul}
 use lib.Bits.{bitXor, xor-lt, xor-self}
 use lib.Count.{ones}
 use lib.Dec.{eqb}
@@ -121,3 +121,19 @@ module _ (m s : ℕ) (h : s < relays m) where
       ∙ ap (shuffled (2 ^ m) b) (xor-back x a) ∙ shuffled-twice m b (slot-below m s) (blockOf m r) (block-below m r hr))
       (ap (λ (z : ℕ). bitXor z b) (slot-relay m (bitXor x a) (bitXor (slotOf m r) b) hq) ∙ xor-back (slotOf m r) b)
       ∙ relay-parts m r
+
+  pub unseen-seen : (r : ℕ) → r < relays m → unseen m s (seen m s r) ≡ r
+  unfolding seen unseen seenBlock seenSlot
+  unseen-seen r hr =
+      let x = bitXor (blockOf m r) a in
+      let hq = xor-lt m (slotOf m r) b (slot-below m r) (slot-below m s) in
+      ap₂ (relay m)
+      (ap (λ (z : ℕ). bitXor (shuffled (2 ^ m) b z) a) (block-relay m (shuffled (2 ^ m) b x) (bitXor (slotOf m r) b) hq)
+      ∙ ap (λ (z : ℕ). bitXor z a) (shuffled-twice m b (slot-below m s) x (xor-lt (2 ^ m) (blockOf m r) a (block-below m r hr) (block-below m s h)))
+      ∙ xor-back (blockOf m r) a)
+      (ap (λ (z : ℕ). bitXor z b) (slot-relay m (shuffled (2 ^ m) b x) (bitXor (slotOf m r) b) hq) ∙ xor-back (slotOf m r) b)
+      ∙ relay-parts m r
+
+  pub unseen-linked : (u v : ℕ) → u < relays m → v < relays m → linked m (unseen m s u) (unseen m s v) ≡ linked m u v
+  unseen-linked u v hu hv =
+      sym (seen-linked (unseen m s u) (unseen m s v) (unseen-below u) (unseen-below v)) ∙ ap₂ (linked m) (seen-unseen u hu) (seen-unseen v hv)

@@ -1,10 +1,10 @@
 -- The m + 1 relays that a relay is linked to (`near`): the slot's m bits changed, one at a time, and the block's bit of the slot.
 -- Each is linked (`near-linked`), no other is (`linked-near`), and no two are the same (`near-differ`): so a relay has exactly m + 1
 -- links (`links-count`). Assumes nothing.
-use Prim.Native.Nat.{ℕ, zero, suc, _+_, _-_, _^_, _≤_, _<_}
-use mathlib.Core.Path.{_≡_, refl, sym, ap, ap₂, _∙_, subst}
-use mathlib.Core.Bool.{Bool, true, false}
-use mathlib.Core.Logic.{_⊎_, inl, inr, ⊎-elim, _≢_}
+use Prim.Native.Nat.{ℕ, _+_, _-_, _^_, _≤_, _<_}
+use mathlib.Core.Path.{_≡_, sym, ap, ap₂, _∙_}
+use mathlib.Core.Bool.{Bool, true}
+use mathlib.Core.Logic.{_⊎_, inl, inr, _≢_}
 use native.Mathlib.Omega.{arith}
 use native.Mathlib.Decide.{ℕ-discrete}
 use lib.Dec.{ltb}
@@ -12,7 +12,7 @@ use borrow.Author.Tests.{lt-ltb, le-ltb}
 use Rattle.bits.specs.Bit.{bit, flip}
 use Rattle.bits.specs.Laws.{bit-lt, flip-same, flip-other, flip-lt, lt-or-le}
 use Rattle.scan.specs.Scan.{pick, count}
-use Rattle.two.specs.Two.{slots, blocks, relays, blockOf, slotOf, relay, linked}
+use Rattle.two.specs.Two.{relays, blockOf, slotOf, relay, linked}
 use Rattle.two.specs.Parts.{block-relay, slot-relay, relay-parts, relay-below, block-below, slot-below}
 use Rattle.two.specs.Links.{Link, linked-link, link-linked}
 use Rattle.two.specs.Counts.{count-values}

@@ -1,6 +1,6 @@
 -- The next hop and the plain route. While blocks differ, the slot walks to the place of a differing block bit (`crossing`) and crosses
 -- there; when they agree, it walks to the target's. A slot walks by its lowest bit that differs.
-use Prim.Native.Nat.{ℕ, _+_, _^_}
+use Prim.Native.Nat.{ℕ, _^_}
 use mathlib.Core.List.{List}
 use lib.Bits.{bitXor}
 use lib.Count.{trailingZeros}

@@ -10,15 +10,14 @@ use lib.Dec.{leb}
 use lib.ListN.{length, drop}
 use borrow.Author.Tests.{le-leb, lt-leb}
 use Rattle.bits.specs.Laws.{lt-or-le}
-use Rattle.scan.specs.Scan.{Spot, nowhere, at, pick}
+use Rattle.scan.specs.Scan.{nowhere, at, pick}
 use Rattle.scan.specs.Laws.{true-or}
-use Rattle.answers.specs.Told.{Told, told, tell, leaves}
-use Rattle.answers.specs.Order.{first, sizeFaults, pairFaults, refuse, refuse-at}
+use Rattle.answers.specs.Told.{told, tell, leaves}
+use Rattle.answers.specs.Order.{first, sizeFaults, refuse, refuse-at}
 use Rattle.answers.specs.declared.Refusal.{Refusal}
 use Rattle.answers.specs.declared.Refusal.the-variants.{UnknownSize, SourceOut, TargetOut, NoRoom}
-use Rattle.two.specs.Two.{known, relays, linked}
-use Rattle.two.specs.Next.{next, hops, route}
-use Rattle.two.specs.Seen.{seen}
+use Rattle.two.specs.Two.{known, relays}
+use Rattle.two.specs.Next.{hops, route}
 use Rattle.two.specs.Told.{faults, factTold, routeTold, routeLeaves}
 
 -- the faults by their tests: order, source, target, room

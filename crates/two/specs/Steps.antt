@@ -1,11 +1,11 @@
 -- One hop of the plain route, and the route. A hop changes one slot bit towards the heading, or crosses (`step`); so it is a link
 -- (`next-linked`) and stays in the mesh (`next-below`). Each hop brings the rank down (`next-less`), so every walk arrives, after at most
 -- m * 2 ^ m + 2 ^ m + m hops (`walk-arrives`, `hops-bound`). Of `crossing` only `crossing-bit` is used. Assumes nothing.
-use Prim.Native.Nat.{ℕ, zero, suc, _+_, _*_, _^_, _≤_, _<_}
+use Prim.Native.Nat.{ℕ, suc, _+_, _*_, _^_, _≤_, _<_}
 use mathlib.Core.Path.{_≡_, refl, sym, ap, ap₂, _∙_, subst}
 use mathlib.Core.Bool.{Bool, true, false}
-use mathlib.Core.Logic.{_⊎_, inl, inr, ⊎-elim, _≢_}
-use native.Mathlib.Nat.{mul-le-mul-right, mul-add, add-mul, suc-mul, mul-comm}
+use mathlib.Core.Logic.{_⊎_, inl, inr, _≢_}
+use native.Mathlib.Nat.{mul-le-mul-right, mul-add, add-mul, mul-comm}
 use native.Mathlib.Omega.{arith}
 use native.Mathlib.Decide.{ℕ-discrete}
 use lib.Bits.{bitXor, xor-lt}
@@ -18,7 +18,7 @@ use Rattle.scan.specs.Scan.{pick}
 use Rattle.paths.specs.Mesh.{width}
 use Rattle.paths.specs.Walk.{node, Arrives}
 use Rattle.paths.specs.Walks.{hops-is}
-use Rattle.two.specs.Two.{slots, blocks, relays, longest, blockOf, slotOf, relay, linked, two}
+use Rattle.two.specs.Two.{slots, blocks, relays, blockOf, slotOf, relay, linked, two}
 use Rattle.two.specs.Next.{crossing, toward, heading, crossed, nextBlock, nextSlot, next, hops}
 use Rattle.two.specs.Next as def
 use Rattle.two.specs.Digits.{lowest-alike}
@@ -234,3 +234,8 @@ module _ (m t : ℕ) (ht : t < relays m) where
   pub hops-bound : (s : ℕ) → s < relays m → hops m s t ≤ m * 2 ^ m + 2 ^ m + m
   unfolding hops
   hops-bound s h = let (k, l, a) = walk-arrives s h in subst (λ (n : ℕ). n ≤ m * 2 ^ m + 2 ^ m + m) (sym (hops-is (next m) s t (width (two m)) k (omega arith) a)) l
+
+  -- the hops of the route are links
+  pub route-linked : (s k : ℕ) → s < relays m → k < hops m s t → linked m (node (next m) s t k) (node (next m) s t (suc k)) ≡ true
+  unfolding node
+  route-linked s k h l = next-linked (node (next m) s t k) (node-below s k h) (hops-arrive s h .not-before k l)

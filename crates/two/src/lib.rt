@@ -15,6 +15,7 @@ pub use parts::Block;
 pub use parts::Place;
 pub use parts::Slot;
 pub use parts::block_of;
+pub use parts::checked;
 pub use parts::named;
 pub use parts::number;
 pub use parts::relay_of;

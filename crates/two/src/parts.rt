@@ -64,7 +64,7 @@ pub fn named(order: Order, block: Block, slot: Slot) -> u64
     relay_of(order, block, slot)
 }
 
-// What stands against a source and a target: 1, 2, 5.
+// What stands against a source and a target, the first of 1, 2, 5: of relay 8 as the source in order 1 it is 2.
 pub fn checked(order: Order, source: u64, target: u64) -> Checked
     ensures { λ r. ⌜ against r ≡ faults (order .0) source target false ⌝ }
 {

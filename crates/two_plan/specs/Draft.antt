@@ -8,15 +8,18 @@ use native.Mathlib.Omega.{arith}
 use lib.ListN.{length, getD}
 use lib.Count.{ones, ones-ones}
 use lib.Pow.{pow-mono}
-use Rattle.bits.specs.Bit.{bit, flip}
-use Rattle.bits.specs.Laws.{bit-cases, clash, lt-or-le}
+use lib.Bits.{bitXor}
+use Rattle.bits.specs.Bit.{bit, flip, Lowest}
+use Rattle.bits.specs.Laws.{clash, xor-zero-eq}
 use Rattle.doors.specs.Doors.{Walk, Way, Doors}
-use Rattle.doors.specs.Plain.{bit-full, full-below}
+use Rattle.doors.specs.Paths.{flip-moves, flip-eq}
+use Rattle.doors.specs.Plain.{full-below}
 use Rattle.doors.specs.Request.{Request}
 use Rattle.grid.specs.Grid.{hops, Within}
 use Rattle.two_fan.specs.Sort.{Ask, Sorts, Keeps, Ends}
 use Rattle.two_fan.specs.Gates.{Gates}
 use Rattle.two_fan.specs.Shut.{block-request}
+use Rattle.two_fan.specs.Loops.{door-of}
 use Rattle.two_sort.specs.declared.Choice.{Choice}
 use Rattle.two_sort.specs.Masks.{at}
 use Rattle.two_sort.specs.Chosen.{Asks, Chose}
@@ -41,6 +44,22 @@ pub record Planned (m s0 p0 k : ℕ) (blocks slots : List ℕ) (c : Choice) (g :
 pub record State (m s0 p0 k : ℕ) (blocks slots : List ℕ) (c : Choice) (o : Taken) (g : List ℕ) : Type 0 where
   pub planned : Planned m s0 p0 k blocks slots c g
   pub over : Overs m s0 p0 k blocks slots c o g
+
+-- j is a target of it
+pub record Inside (s0 p0 : ℕ) (slots : List ℕ) (c : Choice) (o : Taken) (g : List ℕ) (j : ℕ) : Type 0 where
+  pub m : ℕ
+  pub k : ℕ
+  pub blocks : List ℕ
+  pub lt : j < k
+  pub state : State m s0 p0 k blocks slots c o g
+
+pub record Somewhere (slots : List ℕ) (c : Choice) (o : Taken) (g : List ℕ) (j : ℕ) : Type 0 where
+  pub s0 : ℕ
+  pub p0 : ℕ
+  pub is : Inside s0 p0 slots c o g j
+
+pub inside-small : {s0 p0 : ℕ} {slots : List ℕ} {c : Choice} {o : Taken} {g : List ℕ} {j : ℕ} → Inside s0 p0 slots c o g j → j < 6
+inside-small i = omega (arith, i .lt, i .state .planned .asks .ask .few, i .state .planned .asks .high)
 
 -- ---- what the planner of blocks is asked
 
@@ -87,9 +106,54 @@ module _ {m s0 p0 k : ℕ} {blocks slots : List ℕ} {c : Choice} {g : List ℕ}
 
 -- ---- by which slot the path of j leaves
 
-abbrev pub Leaves : (m s0 p0 : ℕ) (slots : List ℕ) (c : Choice) (o : Taken) (g : List ℕ) (j r : ℕ) → Type 0
-Leaves m s0 p0 slots c o g j r =
-    ((j ≡ o .who) × (r ≡ p0))
-    ⊎ (((j ≢ o .who) × (bit j (c .inner) ≡ 1) × (r ≡ at slots j))
-    ⊎ (((j ≢ o .who) × (bit j (c .inner) ≡ 0) × (bit j (c .straight) ≡ 1) × (r ≡ at (c .gates) j))
-    ⊎ ((j ≢ o .who) × (bit j (c .inner) ≡ 0) × (bit j (c .straight) ≡ 0) × (r < 2 ^ m) × ((l : List ℕ) × (hops g j ≡ flip s0 r ∷ l)))))
+pub record Leaves (s0 p0 : ℕ) (slots : List ℕ) (c : Choice) (o : Taken) (g : List ℕ) (j r : ℕ) : Type 0 where
+  pub taken : j ≡ o .who → r ≡ p0
+  pub inner : j ≢ o .who → bit j (c .inner) ≡ 1 → r ≡ at slots j
+  pub straight : j ≢ o .who → bit j (c .inner) ≡ 0 → bit j (c .straight) ≡ 1 → r ≡ at (c .gates) j
+  pub single : j ≢ o .who → bit j (c .inner) ≡ 0 → bit j (c .straight) ≡ 0 → (l : List ℕ) × (hops g j ≡ flip s0 r ∷ l)
+
+module _ {s0 p0 : ℕ} {slots : List ℕ} {c : Choice} {o : Taken} {g : List ℕ} {j r : ℕ} where
+  pub leaves-taken : j ≡ o .who → r ≡ p0 → Leaves s0 p0 slots c o g j r
+  leaves-taken e q = record { taken = λ z. q; inner = λ ne. absurd (ne e); straight = λ ne. absurd (ne e); single = λ ne. absurd (ne e) }
+
+  pub leaves-inner : j ≢ o .who → bit j (c .inner) ≡ 1 → r ≡ at slots j → Leaves s0 p0 slots c o g j r
+  leaves-inner ne b q = record { taken = λ z. absurd (ne z); inner = λ z w. q; straight = λ z w. absurd (clash w b); single = λ z w. absurd (clash w b) }
+
+  pub leaves-straight : j ≢ o .who → bit j (c .inner) ≡ 0 → bit j (c .straight) ≡ 1 → r ≡ at (c .gates) j → Leaves s0 p0 slots c o g j r
+  leaves-straight ne b d q = record { taken = λ z. absurd (ne z); inner = λ z w. absurd (clash b w); straight = λ z w v. q; single = λ z w v. absurd (clash v d) }
+
+  pub leaves-single : j ≢ o .who → bit j (c .inner) ≡ 0 → bit j (c .straight) ≡ 0 → (l : List ℕ) → hops g j ≡ flip s0 r ∷ l → Leaves s0 p0 slots c o g j r
+  leaves-single ne b d l q = record { taken = λ z. absurd (ne z); inner = λ z w. absurd (clash b w); straight = λ z w v. absurd (clash d v); single = λ z w v. (l, q) }
+
+-- ---- the door of a single target
+
+module _ {m s0 p0 k : ℕ} {blocks slots : List ℕ} {c : Choice} {o : Taken} {g : List ℕ} (s : State m s0 p0 k blocks slots c o g) (j : ℕ) (lt : j < k)
+    (outer : bit j (c .inner) ≡ 0) (curved : bit j (c .straight) ≡ 0) where
+  pub single-on : bit j (c .rows) ≡ 1
+  single-on = let e = s .planned .chose .end in e .row-single j (e .single-off j lt outer curved)
+
+  -- what reading its first block asks
+  pub first-ask : (j < 32) × (length (hops g j) < 34)
+  first-ask = (omega (arith, few-targets (s .planned .asks) (s .planned .chose)), way-short (s .planned) j single-on)
+
+  -- the first block and s0 differ in the door
+  pub door-differs : (v : ℕ) → ((x : ℕ) (l : List ℕ) → hops g j ≡ x ∷ l → v ≡ x) → bitXor s0 v ≢ 0
+  door-differs v f z =
+      let d = way-of (s .planned) j single-on .door in
+      flip-moves s0 (d .dim) (sym (f (flip s0 (d .dim)) (d .rest) (d .first)) ∙ sym (xor-zero-eq s0 v z))
+
+  pub leaves-door : (v e : ℕ) → ((x : ℕ) (l : List ℕ) → hops g j ≡ x ∷ l → v ≡ x) → Lowest 64 (bitXor s0 v) e → (l : List ℕ) × (hops g j ≡ flip s0 e ∷ l)
+  leaves-door v e f low =
+      let d = way-of (s .planned) j single-on .door in
+      let same : e ≡ d .dim = door-of 64 s0 v (d .dim) e (f (flip s0 (d .dim)) (d .rest) (d .first)) low in
+      (d .rest, d .first ∙ ap (λ (y : ℕ). flip s0 y ∷ d .rest) (sym same))
+
+  -- whatever slot its block path leaves by is one of the block
+  pub leave-below : (r : ℕ) (l : List ℕ) → hops g j ≡ flip s0 r ∷ l → r < 2 ^ m
+  leave-below r l e =
+      let d = way-of (s .planned) j single-on .door in
+      let same : r ≡ d .dim = flip-eq s0 r (d .dim) (head (sym e ∙ d .first)) in
+      subst (λ (y : ℕ). y < 2 ^ m) (sym same) (full-below (2 ^ m) (d .dim) (d .within))
+    where
+      head : {x y : ℕ} {l r : List ℕ} → x ∷ l ≡ y ∷ r → x ≡ y
+      head e = cc

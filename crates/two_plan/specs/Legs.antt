@@ -31,7 +31,7 @@ use Rattle.two_taken.specs.declared.Taken as taken
 use Rattle.two_taken.specs.TakeOver.{Takes}
 use Rattle.two_write.specs.Blocks.{Goes}
 use Rattle.two_write.specs.Slots.{Below}
-use Rattle.two_plan.specs.Draft.{State, Leaves, way-of, way-short}
+use Rattle.two_plan.specs.Draft.{State, way-of, way-short, single-on, leave-below}
 
 -- ---- small facts
 
@@ -152,12 +152,15 @@ module _ {m s0 p0 k : ℕ} {blocks slots : List ℕ} {c : Choice} {o : taken.Tak
         room = λ h le z. omega (arith, gate-few t, pow-pos m);
       }
 
-  module _ (outer : bit j (c .inner) ≡ 0) (curved : bit j (c .straight) ≡ 0) (leave : ℕ) (rest : List ℕ) (starts : hops g j ≡ flip s0 leave ∷ rest) (leave-in : leave < 2 ^ m) where
+  module _ (outer : bit j (c .inner) ≡ 0) (curved : bit j (c .straight) ≡ 0) (leave : ℕ) (rest : List ℕ) (starts : hops g j ≡ flip s0 leave ∷ rest) where
     single : bit j (c .singles) ≡ 1
     single = s .planned .chose .end .single-off j lt outer curved
 
     on : bit j (c .rows) ≡ 1
-    on = s .planned .chose .end .row-single j single
+    on = single-on s j lt outer curved
+
+    leave-in : leave < 2 ^ m
+    leave-in = leave-below s j lt outer curved leave rest starts
 
     way : Way (2 ^ m) (2 ^ (2 ^ m) - 1) s0 (c .shut) (at (c .ends) j) (hops g j)
     way = way-of (s .planned) j on

@@ -1,1 +1,132 @@
-// The two-level planner.
+// The two-level planner for orders 2 to 5.
+ghost use mathlib.Core.Path.{_≡_};
+ghost use mathlib.Core.List.{List};
+ghost use Prim.Native.Nat.{ℕ, _+_, _*_, _^_, _<_, _≤_};
+ghost use Rattle.grid.specs.Grid.{hops};
+ghost use Rattle.two_plan.specs.Draft.{State, Inside, Somewhere, Leaves};
+ghost use lib.ListN.{length};
+ghost use Rattle.two_plan.specs.Legs as legs;
+use two_sort::Choice;
+use two_taken::Taken;
+
+// The slot by which the path of j leaves the source's block.
+fn leave_of(
+    s0: u64,
+    p0: u32,
+    slots: [u32; 8],
+    c: Choice,
+    o: Taken,
+    grid: &[u64; 1120],
+    j: u32,
+) -> u32
+    requires { ⌜ Inside s0 p0 slots c o (now grid) j ⌝ }
+    ensures { λ r. ⌜ Leaves s0 p0 slots c o (now (grid .entry)) j r ⌝ }
+{
+    if j == o.who {
+        return p0;
+    }
+    if bits::bit(c.inner, j) {
+        return slots[j as usize];
+    }
+    if bits::bit(c.straight, j) {
+        let gates = c.gates;
+        return gates[j as usize];
+    }
+    bits::lowest(s0 ^ grid::first(grid, j as usize))
+}
+
+// A tail: the first `len` of these slots.
+struct Tail {
+    len: usize,
+    slots: [u64; 8],
+}
+
+// The tail through a gate: its slot, and the target's if that is another.
+fn gate_tail(gate: u32, slot: u32) -> Tail
+    ensures { λ r. ⌜ legs.GateTail gate slot (r .len) (r .slots) ⌝ }
+{
+    let mut t = [0u64; 8];
+    t[0] = gate as u64;
+    t[1] = slot as u64;
+    if gate == slot {
+        return Tail { len: 1, slots: t };
+    }
+    Tail { len: 2, slots: t }
+}
+
+// How many relays the path of a row has after its source.
+fn row_len(grid: &[u64; 1120], row: usize) -> usize
+    requires { ⌜ (row < 32) × (length (hops (now grid) row) < 34) ⌝ }
+    ensures { λ r. ⌜ r ≡ length (hops (now (grid .entry)) row) ⌝ }
+{
+    grid[row * 35] as usize
+}
+
+// What a path is made of after its head: the first n blocks of a row, to the slot `last` of the last; and a tail of slots.
+pub struct Leg {
+    pub row: usize,
+    pub n: usize,
+    pub last: u32,
+    pub len: usize,
+    pub tail: [u64; 8],
+}
+
+// The rest of the path of j.
+fn leg_of(slots: [u32; 8], c: Choice, o: Taken, grid: &[u64; 1120], j: u32) -> Leg
+    requires { ⌜ Somewhere slots c o (now grid) j ⌝ }
+    ensures { λ r. ⌜ ((m s0 p0 k leave : ℕ) (blocks : List ℕ) → j < k → State m s0 p0 k blocks slots c o (now (grid .entry)) → Leaves s0 p0 slots c o (now (grid .entry)) j leave → legs.Leg m s0 p0 k blocks slots c o (now (grid .entry)) j leave (r .row) (r .n) (r .last) (r .len) (r .tail)) ⌝ }
+{
+    let i = j as usize;
+    let slot = slots[i];
+    if j == o.who {
+        let row = o.row;
+        let tail = o.tail;
+        let n = row_len(grid, row);
+        return Leg {
+            row,
+            n: n - 1,
+            last: o.enter,
+            len: o.len,
+            tail,
+        };
+    }
+    if bits::bit(c.inner, j) {
+        return Leg {
+            row: 0,
+            n: 0,
+            last: slot,
+            len: 0,
+            tail: [0u64; 8],
+        };
+    }
+    let gates = c.gates;
+    let gate = gates[i];
+    let t = gate_tail(gate, slot);
+    let tail = t.slots;
+    if bits::bit(c.straight, j) {
+        return Leg {
+            row: 0,
+            n: 0,
+            last: gate,
+            len: t.len,
+            tail,
+        };
+    }
+    let n = row_len(grid, i);
+    if bits::bit(c.gated, j) {
+        return Leg {
+            row: i,
+            n,
+            last: gate,
+            len: t.len,
+            tail,
+        };
+    }
+    Leg {
+        row: i,
+        n,
+        last: slot,
+        len: 0,
+        tail,
+    }
+}

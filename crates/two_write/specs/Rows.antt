@@ -12,7 +12,9 @@ use lib.ListN.{length, getD, set, length-set, List·getD-eq-default}
 use lib.Seq.{sets, length-sets, getD-set-same, getD-set-other}
 use Rattle.bits.specs.Laws.{lt-or-le}
 use Rattle.paths.specs.Fan as fan
-use Rattle.paths.specs.Lists.{Laid}
+use Rattle.paths.specs.Mesh.{Mesh, width}
+use Rattle.paths.specs.Lists.{Laid, Lists}
+use Rattle.requests.specs.Sound.{Sound}
 
 -- ---- a run written into a list
 
@@ -144,3 +146,29 @@ module _ {w s k : ℕ} {P : ℕ → List ℕ → Type 0} {places₀ counts₀ pl
       count : (i : ℕ) → i < k → (c : (i < k) ⊎ (k ≤ i)) → getD counts i 0 ≡ length (path-or i c)
       count i h (inl c) = d .row i c .2 .count
       count i h (inr c) = absurd (omega arith)
+
+-- ---- what each of the planner's three ways is asked, and what it gives
+
+-- a sound request, with the places of its paths filled
+pub record Ready (mesh : Mesh) (s : ℕ) (targets places counts : List ℕ) : Type 0 where
+  pub sound : Sound (mesh .relays) (mesh .links) s targets
+  pub room : length targets * width mesh ≤ length places
+  pub room-counts : length targets ≤ length counts
+  pub filled : (x : ℕ) → x < length targets * width mesh → getD places x 0 ≡ fan.filler
+
+-- a fan is laid out in them, and what lies beyond is as it was
+pub record Drawn (mesh : Mesh) (s : ℕ) (targets places counts places₁ counts₁ : List ℕ) : Type 0 where
+  pub paths : ℕ → List ℕ
+  pub fan : Lists mesh s targets paths
+  pub laid : Laid (width mesh) s (length targets) paths places₁ counts₁
+  pub rest : (x : ℕ) → length targets * width mesh ≤ x → getD places₁ x 0 ≡ getD places x 0
+  pub kept : (x : ℕ) → length targets ≤ x → getD counts₁ x 0 ≡ getD counts x 0
+
+pub ready-drawing : {mesh : Mesh} {s : ℕ} {targets places counts : List ℕ} (P : ℕ → List ℕ → Type 0) → Ready mesh s targets places counts
+    → Drawing (width mesh) s (length targets) P places counts places counts 0
+ready-drawing {mesh} {s} {targets} {places} {counts} P r = drawing-none (width mesh) s (length targets) P places counts (r .room) (r .room-counts) (r .filled)
+
+-- all paths written, and they are a fan
+pub drawing-drawn : {mesh : Mesh} {s : ℕ} {targets places counts places₁ counts₁ : List ℕ} {P : ℕ → List ℕ → Type 0}
+    → (d : Drawing (width mesh) s (length targets) P places counts places₁ counts₁ (length targets)) → Lists mesh s targets (drawn d) → Drawn mesh s targets places counts places₁ counts₁
+drawing-drawn d f = record { paths = drawn d; fan = f; laid = drawn-laid d; rest = d .rest; kept = d .kept }

@@ -1,7 +1,6 @@
 -- `two::links::joined` meets its contract. Assumes nothing.
 use mathlib.Core.Path.{_∙_, sym, ap}
 use Prim.Native.Nat.{ℕ}
-use borrow.Author.Needs.{needs}
 use lib.Bits.{bitXor}
 use lib.Dec.{eqb}
 use Rattle.two.specs.Links.{joined-same, joined-across, joined-not}

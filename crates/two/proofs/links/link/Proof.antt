@@ -1,6 +1,6 @@
 -- `two::links::link` meets its contract. Assumes nothing.
 use Prim.Native.Nat.{ℕ}
-use mathlib.Core.Path.{_∙_, ap, ap₂}
+use mathlib.Core.Path.{_∙_, ap₂}
 use native.Mathlib.Omega.{arith}
 use Rattle.two.specs.Two.{blockOf, slotOf, joined, linked}
 use Rattle.two.specs.Parts.{slot-below, slots-few}

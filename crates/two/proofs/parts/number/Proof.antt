@@ -1,5 +1,4 @@
 -- `two::parts::number` meets its contract. Assumes nothing.
-use Prim.Native.Nat.{ℕ}
 use mathlib.Core.Path.{_∙_, sym, ap}
 use mathlib.Core.Bool.{false}
 use borrow.Author.Needs.{needs}

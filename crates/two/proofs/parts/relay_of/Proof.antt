@@ -1,7 +1,6 @@
 -- `two::parts::relay_of` meets its contract. Assumes nothing.
-use Prim.Native.Nat.{ℕ, _+_, _*_, _^_}
+use Prim.Native.Nat.{ℕ, _+_, _*_}
 use mathlib.Core.Path.{ap}
-use borrow.Author.Needs.{needs}
 use native.Mathlib.Omega.{arith}
 use Rattle.two.specs.Parts.{relay-few}
 use Rattle.two.proofs.parts.relay_of.Statement.{statement}

@@ -1,14 +1,11 @@
 -- `two::routes::route` meets its contract. Assumes nothing.
 use Prim.Native.Nat.{ℕ, _+_, _≤_, _<_}
-use mathlib.Core.Path.{_≡_, _∙_, sym, ap, subst}
-use mathlib.Core.Bool.{false}
-use mathlib.Core.List.{List, _++_}
-use mathlib.Core.Option.{none, some}
+use mathlib.Core.Path.{_∙_, sym, ap, subst}
+use mathlib.Core.List.{_++_}
 use borrow.Author.Needs.{needs}
 use lib.ListN.{length, drop}
 use Rattle.answers.specs.Told.{told, against}
 use Rattle.two.specs.Next.{route}
-use Rattle.two.specs.Told.{faults}
 use Rattle.two.specs.Refusals.{Fine, fine, route-refused, route-short, route-fits}
 use Rattle.two.proofs.routes.route.Statement.{statement}
 use Rattle.two.proofs.routes.route.Tie as tie

@@ -1,6 +1,6 @@
 -- `two::routes::route_parts` meets its contract. Assumes nothing.
 use Prim.Native.Nat.{ℕ}
-use mathlib.Core.Path.{_≡_, _∙_, ap₂}
+use mathlib.Core.Path.{_∙_, ap₂}
 use borrow.Author.Needs.{needs}
 use lib.ListN.{length}
 use Rattle.two.specs.Told.{routeTold, routeLeaves}

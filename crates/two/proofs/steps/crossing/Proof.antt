@@ -1,5 +1,4 @@
 -- `two::steps::crossing` meets its contract. Assumes nothing.
-use borrow.Author.Needs.{needs}
 use native.Mathlib.Omega.{arith}
 use Rattle.two.specs.Steps.{crossing-lowest}
 use Rattle.two.proofs.steps.crossing.Statement.{statement}

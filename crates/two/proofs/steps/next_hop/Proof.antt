@@ -1,7 +1,7 @@
 -- `two::steps::next_hop` meets its contract. Assumes nothing.
 use mathlib.Core.Path.{_≡_, _∙_, sym, ap}
 use mathlib.Core.Bool.{false}
-use mathlib.Core.Option.{none, some}
+use mathlib.Core.Option.{none}
 use borrow.Author.Needs.{needs}
 use Rattle.answers.specs.Told.{told, against}
 use Rattle.two.specs.Next.{next}

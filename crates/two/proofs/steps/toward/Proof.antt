@@ -1,6 +1,5 @@
 -- `two::steps::toward` meets its contract. Assumes nothing.
 use mathlib.Core.Path.{_∙_, sym}
-use native.Mathlib.Omega.{arith}
 use Rattle.bits.specs.Laws.{xor-zero-eq}
 use Rattle.two.specs.Steps.{toward-there, toward-lowest}
 use Rattle.two.proofs.steps.toward.Statement.{statement}

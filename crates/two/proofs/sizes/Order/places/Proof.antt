@@ -4,7 +4,7 @@ use borrow.Author.Needs.{needs}
 use Prim.Native.Nat.{ℕ, _+_}
 use native.Mathlib.Omega.{arith}
 use Rattle.answers.specs.Told.{told}
-use Rattle.two.specs.Two.{relays, longest}
+use Rattle.two.specs.Two.{longest}
 use Rattle.two.specs.Parts.{few, longest-few}
 use Rattle.two.specs.Refusals.{fact-known, fact-unknown}
 use Rattle.two.proofs.sizes.Order.places.Statement.{statement}

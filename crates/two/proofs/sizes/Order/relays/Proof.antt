@@ -1,11 +1,9 @@
 -- `two::sizes::Order::relays` meets its contract. Assumes nothing.
 use mathlib.Core.Path.{sym, ap, _∙_}
 use borrow.Author.Needs.{needs}
-use Prim.Native.Nat.{ℕ, _+_}
-use native.Mathlib.Omega.{arith}
 use Rattle.answers.specs.Told.{told}
-use Rattle.two.specs.Two.{relays, longest}
-use Rattle.two.specs.Parts.{few, longest-few}
+use Rattle.two.specs.Two.{relays}
+use Rattle.two.specs.Parts.{few}
 use Rattle.two.specs.Refusals.{fact-known, fact-unknown}
 use Rattle.two.proofs.sizes.Order.relays.Statement.{statement}
 use Rattle.two.proofs.sizes.Order.relays.Tie as tie
