@@ -235,3 +235,9 @@ module _ {m s0 p0 k : ℕ} {blocks slots : List ℕ} {c : Choice} {o : taken.Tak
           })));
           room = λ h le z. omega (arith, blocks-room m (length (hops g j)) (way .short), gate-few t);
         }
+
+-- so many blocks, by another name
+pub leg-long : {m s0 p0 k : ℕ} {blocks slots : List ℕ} {c : Choice} {o : taken.Taken} {g : List ℕ} {j leave row last len : ℕ} {tail : List ℕ} (n : ℕ) → n ≡ length (hops g row)
+    → Leg m s0 p0 k blocks slots c o g j leave row (length (hops g row)) last len tail → Leg m s0 p0 k blocks slots c o g j leave row n last len tail
+leg-long {m} {s0} {p0} {k} {blocks} {slots} {c} {o} {g} {j} {leave} {row} {last} {len} {tail} n e l =
+    subst (λ (y : ℕ). Leg m s0 p0 k blocks slots c o g j leave row y last len tail) (sym e) l

@@ -142,3 +142,12 @@ module _ {m s0 p0 k : ℕ} {blocks slots : List ℕ} {c : Choice} {o : taken.Tak
       subst (λ (y : ℕ). Leg m s0 p0 k blocks slots c o g y leave row₁ n (o .enter) (o .len) (o .tail)) (sym ej)
       (subst (λ (y : ℕ). Leg m s0 p0 k blocks slots c o g who y row₁ n (o .enter) (o .len) (o .tail)) (sym el)
       (subst (λ (y : ℕ). Leg m s0 p0 k blocks slots c o g who p0 y n (o .enter) (o .len) (o .tail)) (sym at-row) (leg n (en ∙ ap (λ (y : ℕ). length (hops g y)) at-row))))
+
+  -- its row can be read
+  pub taken-row : (o .row < 32) × (length (hops g (o .row)) < 34) × (0 < length (hops g (o .row)))
+  taken-row = rw (t .row-is) (few-rows, way-short (s .planned) row on, omega (arith, size))
+
+-- whoever takes over does
+pub takes-over : {m s0 p0 k : ℕ} {blocks slots : List ℕ} {c : Choice} {o : taken.Taken} {g : List ℕ} {j : ℕ} → State m s0 p0 k blocks slots c o g → j < k → j ≡ o .who
+    → Takes m s0 p0 k blocks slots (c .gates) (c .gated) (c .reps) g (o .who) (o .row) (o .enter) (o .len) (o .tail)
+takes-over s lt e = s .over .someone (λ z. omega (arith, s .planned .asks .ask .few, s .planned .asks .high))

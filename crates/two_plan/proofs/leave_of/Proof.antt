@@ -1,59 +1,53 @@
-use borrow.Author.Needs.{needs}
+-- `two_plan::leave_of` meets its contract: each return knows the kind of its target. Assumes nothing.
+use mathlib.Core.Path.{_∙_, sym, refl}
+use native.Mathlib.Omega.{arith}
+use Rattle.bits.specs.Laws.{bit-on, bit-off}
+use Rattle.two_plan.specs.Draft.{inside-small, leaves-taken, leaves-inner, leaves-straight, leaves-single, first-ask, door-differs, leaves-door}
 use Rattle.two_plan.proofs.leave_of.Statement.{statement}
 use Rattle.two_plan.proofs.leave_of.Tie as tie
-use Rattle.two_plan.proofs.leave_of.Reads as reads
-use Rattle.two_plan.proofs.leave_of.Lts as lts
-use Rattle.bits.proofs.bit.Reads as bit-reads
-use Rattle.bits.proofs.lowest.Reads as lowest-reads
-use Rattle.grid.proofs.first.Reads as first-reads
 
--- src/lib.rt:26:9
 returns : tie.Need-returns
-returns c = ?
+returns c = leaves-taken (c .if1 .taken) refl
 
--- src/lib.rt:28:8
 bit-requires : tie.Need-bit-requires
-bit-requires c κs = search needs
+bit-requires c κs = omega (arith, inside-small (c .before .before .pre))
 
--- src/lib.rt:29:16
 mul-result : tie.Need-mul-result
-mul-result c = search needs
+mul-result c = omega (arith, inside-small (c .before .before .before .before .pre))
 
--- src/lib.rt:29:16
 array-read-result : tie.Need-array-read-result
-array-read-result c = search needs
+array-read-result c = omega (arith, inside-small (c .before .before .before .before .pre))
 
--- src/lib.rt:29:9
 returns-2 : tie.Need-returns-2
-returns-2 c = ?
+returns-2 c = leaves-inner (c .before .before .if1 .left) (bit-on _ _ (sym (c .before .bit .ensures) ∙ c .if2 .taken)) refl
 
--- src/lib.rt:31:8
 bit-requires-2 : tie.Need-bit-requires-2
-bit-requires-2 c κs = search needs
+bit-requires-2 c κs = omega (arith, inside-small (c .before .before .before .before .pre))
 
--- src/lib.rt:33:16
 mul-result-2 : tie.Need-mul-result-2
-mul-result-2 c = search needs
+mul-result-2 c = omega (arith, inside-small (c .before .before .before .before .before .before .before .pre))
 
--- src/lib.rt:33:16
 array-read-result-2 : tie.Need-array-read-result-2
-array-read-result-2 c = search needs
+array-read-result-2 c = omega (arith, inside-small (c .before .before .before .before .before .before .before .pre))
 
--- src/lib.rt:33:9
 returns-3 : tie.Need-returns-3
-returns-3 c = ?
+returns-3 c = leaves-straight (c .before .before .before .before .before .if1 .left) (bit-off _ _ (sym (c .before .before .before .before .bit .ensures) ∙ c .before .before .before .if2 .left)) (bit-on _ _ (sym (c .before .before .bit2 .ensures) ∙ c .before .if3 .taken)) refl
 
--- src/lib.rt:35:23
 first-requires : tie.Need-first-requires
-first-requires c κs = search needs
+first-requires c κs =
+    let i = c .before .before .before .before .before .before .pre in
+    first-ask (i .state) _ (i .lt) (bit-off _ _ (sym (c .before .before .before .bit .ensures) ∙ c .before .before .if2 .left)) (bit-off _ _ (sym (c .before .bit2 .ensures) ∙ c .if3 .left))
 
--- src/lib.rt:35:5
 lowest-requires : tie.Need-lowest-requires
-lowest-requires c κs = search needs
+lowest-requires c κs =
+    let i = c .before .before .before .before .before .before .before .pre in
+    door-differs (i .state) _ (i .lt) (bit-off _ _ (sym (c .before .before .before .before .bit .ensures) ∙ c .before .before .before .if2 .left)) (bit-off _ _ (sym (c .before .before .bit2 .ensures) ∙ c .before .if3 .left)) _ (c .first .ensures)
 
--- src/lib.rt:13:1
 returns-4 : tie.Need-returns-4
-returns-4 c = ?
+returns-4 c =
+    let i = c .before .before .before .before .before .before .before .before .pre in
+    let q = leaves-door (i .state) _ (i .lt) (bit-off _ _ (sym (c .before .before .before .before .before .bit .ensures) ∙ c .before .before .before .before .if2 .left)) (bit-off _ _ (sym (c .before .before .before .bit2 .ensures) ∙ c .before .before .if3 .left)) _ _ (c .before .first .ensures) (c .lowest .ensures) in
+    leaves-single (c .before .before .before .before .before .before .if1 .left) (bit-off _ _ (sym (c .before .before .before .before .before .bit .ensures) ∙ c .before .before .before .before .if2 .left)) (bit-off _ _ (sym (c .before .before .before .bit2 .ensures) ∙ c .before .before .if3 .left)) (q .0) (q .1)
 
 pub leave-of-spec : {M : Type 1} → statement M
 leave-of-spec =

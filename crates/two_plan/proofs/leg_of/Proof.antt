@@ -1,75 +1,77 @@
+-- `two_plan::leg_of` meets its contract: each return is the leg of its target's kind. Assumes nothing.
+use mathlib.Core.Path.{_∙_, sym, refl}
+use native.Mathlib.Omega.{arith}
+use Rattle.bits.specs.Laws.{bit-on, bit-off}
+use Rattle.two_plan.specs.Draft.{inside-small, first-ask}
+use Rattle.two_plan.specs.Legs.{leg-inner, leg-straight, leg-direct, leg-gated, leg-long}
+use Rattle.two_plan.specs.TakenLeg.{leg-taken, taken-row, takes-over}
 use borrow.Author.Needs.{needs}
 use Rattle.two_plan.proofs.leg_of.Statement.{statement}
 use Rattle.two_plan.proofs.leg_of.Tie as tie
-use Rattle.two_plan.proofs.leg_of.Reads as reads
-use Rattle.two_plan.proofs.leg_of.Lts as lts
-use Rattle.bits.proofs.bit.Reads as bit-reads
-use Rattle.two_plan.proofs.gate_tail.Reads as gate-tail-reads
-use Rattle.two_plan.proofs.row_len.Reads as row-len-reads
 
--- src/lib.rt:80:16
 mul-slot : tie.Need-mul-slot
-mul-slot c = search needs
+mul-slot c = omega (arith, inside-small (c .pre .is))
 
--- src/lib.rt:80:16
 array-read-slot : tie.Need-array-read-slot
-array-read-slot c = search needs
+array-read-slot c = omega (arith, inside-small (c .pre .is))
 
--- src/lib.rt:84:13
 row-len-requires : tie.Need-row-len-requires
-row-len-requires c κs = search needs
+row-len-requires c κs =
+    let i = c .before .before .before .pre .is in
+    let q = taken-row (i .state) (takes-over (i .state) (i .lt) (c .before .if1 .taken)) in
+    (q .0, q .1)
 
--- src/lib.rt:87:16
 sub-t22 : tie.Need-sub-t22
-sub-t22 c = search needs
+sub-t22 c =
+    let i = c .before .before .before .before .pre .is in
+    omega (arith, c .row-len .ensures, taken-row (i .state) (takes-over (i .state) (i .lt) (c .before .before .if1 .taken)) .2)
 
--- src/lib.rt:85:9
 returns : tie.Need-returns
-returns c = ?
+returns c =
+    λ m s0 p0 k leave blocks lt s l. 
+    let t = takes-over s lt (c .before .before .if1 .taken) in
+    leg-taken s t _ leave _ _ (c .before .before .if1 .taken) (l .taken (c .before .before .if1 .taken)) refl (omega (arith, c .row-len .ensures, taken-row s t .2))
 
--- src/lib.rt:93:8
 bit-requires : tie.Need-bit-requires
-bit-requires c κs = search needs
+bit-requires c κs = omega (arith, inside-small (c .before .before .pre .is))
 
--- src/lib.rt:94:9
 returns-2 : tie.Need-returns-2
-returns-2 c = ?
+returns-2 c = λ m s0 p0 k leave blocks lt s l. leg-inner s _ lt leave _ (bit-on _ _ (sym (c .before .bit .ensures) ∙ c .if2 .taken)) (l .inner (c .before .before .if1 .left) (bit-on _ _ (sym (c .before .bit .ensures) ∙ c .if2 .taken)))
 
--- src/lib.rt:103:16
 mul-gate : tie.Need-mul-gate
-mul-gate c = search needs
+mul-gate c = omega (arith, inside-small (c .before .before .before .before .before .pre .is))
 
--- src/lib.rt:103:16
 array-read-gate : tie.Need-array-read-gate
-array-read-gate c = search needs
+array-read-gate c = omega (arith, inside-small (c .before .before .before .before .before .pre .is))
 
--- src/lib.rt:104:9
 gate-tail-requires : tie.Need-gate-tail-requires
 gate-tail-requires c κs = search needs
 
--- src/lib.rt:106:8
 bit-requires-2 : tie.Need-bit-requires-2
-bit-requires-2 c κs = search needs
+bit-requires-2 c κs = omega (arith, inside-small (c .before .before .before .before .before .before .before .pre .is))
 
--- src/lib.rt:107:9
 returns-3 : tie.Need-returns-3
-returns-3 c = ?
+returns-3 c = λ m s0 p0 k leave blocks lt s l. leg-straight s _ lt leave _ _ (bit-on _ _ (sym (c .before .bit2 .ensures) ∙ c .if3 .taken)) (l .straight (c .before .before .before .before .before .before .before .if1 .left) (bit-off _ _ (sym (c .before .before .before .before .before .before .bit .ensures) ∙ c .before .before .before .before .before .if2 .left)) (bit-on _ _ (sym (c .before .bit2 .ensures) ∙ c .if3 .taken))) (c .before .before .before .gate-tail .ensures)
 
--- src/lib.rt:115:9
 row-len-requires-2 : tie.Need-row-len-requires-2
-row-len-requires-2 c κs = search needs
+row-len-requires-2 c κs =
+    let i = c .before .before .before .before .before .before .before .before .before .pre .is in
+    first-ask (i .state) _ (i .lt) (bit-off _ _ (sym (c .before .before .before .before .before .before .bit .ensures) ∙ c .before .before .before .before .before .if2 .left)) (bit-off _ _ (sym (c .before .bit2 .ensures) ∙ c .if3 .left))
 
--- src/lib.rt:116:8
 bit-requires-3 : tie.Need-bit-requires-3
-bit-requires-3 c κs = search needs
+bit-requires-3 c κs = omega (arith, inside-small (c .before .before .before .before .before .before .before .before .before .before .pre .is))
 
--- src/lib.rt:117:9
 returns-4 : tie.Need-returns-4
-returns-4 c = ?
+returns-4 c =
+    λ m s0 p0 k leave blocks lt s l. 
+    let d = l .single (c .before .before .before .before .before .before .before .before .before .before .if1 .left) (bit-off _ _ (sym (c .before .before .before .before .before .before .before .before .before .bit .ensures) ∙ c .before .before .before .before .before .before .before .before .if2 .left)) (bit-off _ _ (sym (c .before .before .before .before .bit2 .ensures) ∙ c .before .before .before .if3 .left)) in
+    leg-long _ (c .before .before .row-len2 .ensures) (leg-gated s _ lt (bit-off _ _ (sym (c .before .before .before .before .before .before .before .before .before .bit .ensures) ∙ c .before .before .before .before .before .before .before .before .if2 .left)) (bit-off _ _ (sym (c .before .before .before .before .bit2 .ensures) ∙ c .before .before .before .if3 .left)) leave (d .0) (d .1) _ _ (bit-on _ _ (sym (c .before .bit3 .ensures) ∙ c .if4 .taken)) (c .before .before .before .before .before .before .gate-tail .ensures))
 
--- src/lib.rt:75:1
 returns-5 : tie.Need-returns-5
-returns-5 c = ?
+returns-5 c =
+    λ m s0 p0 k leave blocks lt s l. 
+    let d = l .single (c .before .before .before .before .before .before .before .before .before .before .if1 .left) (bit-off _ _ (sym (c .before .before .before .before .before .before .before .before .before .bit .ensures) ∙ c .before .before .before .before .before .before .before .before .if2 .left)) (bit-off _ _ (sym (c .before .before .before .before .bit2 .ensures) ∙ c .before .before .before .if3 .left)) in
+    leg-long _ (c .before .before .row-len2 .ensures) (leg-direct s _ lt (bit-off _ _ (sym (c .before .before .before .before .before .before .before .before .before .bit .ensures) ∙ c .before .before .before .before .before .before .before .before .if2 .left)) (bit-off _ _ (sym (c .before .before .before .before .bit2 .ensures) ∙ c .before .before .before .if3 .left)) leave (d .0) (d .1) _ (bit-off _ _ (sym (c .before .bit3 .ensures) ∙ c .if4 .left)) (c .before .before .before .before .before .before .before .before .before .before .if1 .left))
 
 pub leg-of-spec : {M : Type 1} → statement M
 leg-of-spec =
