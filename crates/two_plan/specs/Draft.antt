@@ -74,9 +74,11 @@ module _ {m s0 p0 k : ℕ} {blocks slots : List ℕ} {c : Choice} (a : Asks m s0
   rep-in r o = let g = h .end .reps-on r o .0 in (h .sort .gated-on r g .0, g)
 
   pub rows-within : Within (c .rows)
-  rows-within = record { below = λ x o. ⊎-elim
-      (λ s. omega (arith, h .end .single-on x s .0, few-targets))
-      (λ (r, p, e). omega (arith, rep-in r p .0, few-targets)) (h .end .row-from x o) }
+  rows-within = record {
+    below = λ x o. ⊎-elim
+        (λ s. omega (arith, h .end .single-on x s .0, few-targets))
+        (λ (r, p, e). omega (arith, rep-in r p .0, few-targets)) (h .end .row-from x o);
+  }
 
 module _ {m s0 p0 k : ℕ} {blocks slots : List ℕ} {c : Choice} {g : List ℕ} (p : Planned m s0 p0 k blocks slots c g) where
   pub way-of : (x : ℕ) → bit x (c .rows) ≡ 1 → Way (2 ^ m) (2 ^ (2 ^ m) - 1) s0 (c .shut) (at (c .ends) x) (hops g x)

@@ -142,13 +142,16 @@ module _ {m s0 p0 k : ℕ} {blocks slots : List ℕ} {c : Choice} {o : taken.Tak
         stays = λ z. e;
         few = omega (arith, gate-few t);
         below = gate-below m (s .planned .chose .below j) slot-in t;
-        role = λ d body k. inr (inr (x .0, inr (inl (record {
-          at-gate = x .1;
-          leaves = e;
-          no-route = take-none (hops g 0);
-          no-body = subst (λ (l : List ℕ). Crosses m s0 leave d (at (c .gates) j) l body) (take-none (hops g 0)) k .2;
-          steps = gate-steps near t;
-        }))));
+        role = λ d body k. inr (inr (
+          x .0,
+          inr (inl (record {
+            at-gate = x .1;
+            leaves = e;
+            no-route = take-none (hops g 0);
+            no-body = subst (λ (l : List ℕ). Crosses m s0 leave d (at (c .gates) j) l body) (take-none (hops g 0)) k .2;
+            steps = gate-steps near t;
+          })),
+        ));
         room = λ h le z. omega (arith, gate-few t, pow-pos m);
       }
 
@@ -225,14 +228,17 @@ module _ {m s0 p0 k : ℕ} {blocks slots : List ℕ} {c : Choice} {o : taken.Tak
           stays = λ z. absurd (some-hops z);
           few = omega (arith, gate-few t);
           below = gate-below m (s .planned .chose .below j) slot-in t;
-          role = λ d body k. inr (inr (b, inl (record {
-            member = on;
-            end = end;
-            follows = all;
-            crosses = subst (λ (l : List ℕ). Crosses m s0 leave (flip (at blocks j) (at (c .gates) j)) (at (c .gates) j) l body) (sym all)
-                (subst (λ (y : ℕ). Crosses m s0 leave y (at (c .gates) j) (hops g j) body) end (ends-there d (at (c .gates) j) body k));
-            steps = gate-steps (s .planned .chose .gate j lt b .near) t;
-          })));
+          role = λ d body k. inr (inr (
+            b,
+            inl (record {
+              member = on;
+              end = end;
+              follows = all;
+              crosses = subst (λ (l : List ℕ). Crosses m s0 leave (flip (at blocks j) (at (c .gates) j)) (at (c .gates) j) l body) (sym all)
+                  (subst (λ (y : ℕ). Crosses m s0 leave y (at (c .gates) j) (hops g j) body) end (ends-there d (at (c .gates) j) body k));
+              steps = gate-steps (s .planned .chose .gate j lt b .near) t;
+            }),
+          ));
           room = λ h le z. omega (arith, blocks-room m (length (hops g j)) (way .short), gate-few t);
         }
 

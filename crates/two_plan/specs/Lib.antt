@@ -2,3 +2,4 @@
 pub mod Draft
 pub mod Legs
 pub mod TakenLeg
+pub mod Path

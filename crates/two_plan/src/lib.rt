@@ -4,8 +4,10 @@ ghost use mathlib.Core.List.{List};
 ghost use Prim.Native.Nat.{ℕ, _+_, _*_, _^_, _<_, _≤_};
 ghost use Rattle.grid.specs.Grid.{hops};
 ghost use Rattle.two_plan.specs.Draft.{State, Inside, Somewhere, Leaves};
-ghost use lib.ListN.{length};
+ghost use lib.ListN.{length, take};
 ghost use Rattle.two_plan.specs.Legs as legs;
+ghost use Rattle.two_plan.specs.Path.{headIf, HeadAsk, PathAsk, Wrote};
+ghost use Rattle.two_write.specs.Slots.{Slotted};
 use two_sort::Choice;
 use two_taken::Taken;
 
@@ -129,4 +131,53 @@ fn leg_of(slots: [u32; 8], c: Choice, o: Taken, grid: &[u64; 1120], j: u32) -> L
         len: 0,
         tail,
     }
+}
+
+// Writes the head of a path, if it walks in the source's block.
+fn write_head_if(
+    m: u32,
+    s0: u64,
+    heads: &[u64; 1120],
+    j: usize,
+    walks: bool,
+    at: usize,
+    out: &mut [u64],
+) -> usize
+    requires { ⌜ HeadAsk m s0 (now heads) j walks × (at + length (headIf walks (hops (now heads) j)) ≤ length (now out)) ⌝ }
+    ensures { λ r. ⌜ Slotted m s0 (headIf walks (hops (now (heads .entry)) j)) at (now (out .entry)) (now (out .exit)) r ⌝ }
+{
+    if walks {
+        return two_write::write_head(m, s0, heads, j, at, out);
+    }
+    at
+}
+
+// Writes the path of j, to a target in block b, from the place `at` on, and returns its hops.
+fn write_path(
+    m: u32,
+    s0: u64,
+    b: u64,
+    source: u64,
+    heads: &[u64; 1120],
+    j: usize,
+    walks: bool,
+    leave: u32,
+    leg: Leg,
+    grid: &[u64; 1120],
+    at: usize,
+    out: &mut [u64],
+) -> u64
+    requires { ⌜ PathAsk m s0 b (now heads) j walks (now grid) leave (leg .row) (leg .n) (leg .last) (leg .len) (leg .tail) at (length (now out)) ⌝ }
+    ensures { λ r. ⌜ Wrote m s0 b source (headIf walks (hops (now (heads .entry)) j)) (take (leg .n) (hops (now (grid .entry)) (leg .row))) leave (leg .last) (take (leg .len) (leg .tail)) at (now (out .entry)) (now (out .exit)) r ⌝ }
+{
+    let row = leg.row;
+    let n = leg.n;
+    let last = leg.last;
+    let len = leg.len;
+    let tail = leg.tail;
+    out[at] = source;
+    let p = write_head_if(m, s0, heads, j, walks, at + 1, out);
+    let q = two_write::write_blocks(m, s0, grid, row, n, leave as u64, last as u64, p, out);
+    let r = two_write::write_slots(m, b, tail, len, q, out);
+    (r - at - 1) as u64
 }

@@ -28,7 +28,7 @@ sub-t22 c =
 
 returns : tie.Need-returns
 returns c =
-    λ m s0 p0 k leave blocks lt s l. 
+    λ m s0 p0 k leave blocks lt s l.
     let t = takes-over s lt (c .before .before .if1 .taken) in
     leg-taken s t _ leave _ _ (c .before .before .if1 .taken) (l .taken (c .before .before .if1 .taken)) refl (omega (arith, c .row-len .ensures, taken-row s t .2))
 
@@ -63,13 +63,13 @@ bit-requires-3 c κs = omega (arith, inside-small (c .before .before .before .be
 
 returns-4 : tie.Need-returns-4
 returns-4 c =
-    λ m s0 p0 k leave blocks lt s l. 
+    λ m s0 p0 k leave blocks lt s l.
     let d = l .single (c .before .before .before .before .before .before .before .before .before .before .if1 .left) (bit-off _ _ (sym (c .before .before .before .before .before .before .before .before .before .bit .ensures) ∙ c .before .before .before .before .before .before .before .before .if2 .left)) (bit-off _ _ (sym (c .before .before .before .before .bit2 .ensures) ∙ c .before .before .before .if3 .left)) in
     leg-long _ (c .before .before .row-len2 .ensures) (leg-gated s _ lt (bit-off _ _ (sym (c .before .before .before .before .before .before .before .before .before .bit .ensures) ∙ c .before .before .before .before .before .before .before .before .if2 .left)) (bit-off _ _ (sym (c .before .before .before .before .bit2 .ensures) ∙ c .before .before .before .if3 .left)) leave (d .0) (d .1) _ _ (bit-on _ _ (sym (c .before .bit3 .ensures) ∙ c .if4 .taken)) (c .before .before .before .before .before .before .gate-tail .ensures))
 
 returns-5 : tie.Need-returns-5
 returns-5 c =
-    λ m s0 p0 k leave blocks lt s l. 
+    λ m s0 p0 k leave blocks lt s l.
     let d = l .single (c .before .before .before .before .before .before .before .before .before .before .if1 .left) (bit-off _ _ (sym (c .before .before .before .before .before .before .before .before .before .bit .ensures) ∙ c .before .before .before .before .before .before .before .before .if2 .left)) (bit-off _ _ (sym (c .before .before .before .before .bit2 .ensures) ∙ c .before .before .before .if3 .left)) in
     leg-long _ (c .before .before .row-len2 .ensures) (leg-direct s _ lt (bit-off _ _ (sym (c .before .before .before .before .before .before .before .before .before .bit .ensures) ∙ c .before .before .before .before .before .before .before .before .if2 .left)) (bit-off _ _ (sym (c .before .before .before .before .bit2 .ensures) ∙ c .before .before .before .if3 .left)) leave (d .0) (d .1) _ (bit-off _ _ (sym (c .before .bit3 .ensures) ∙ c .if4 .left)) (c .before .before .before .before .before .before .before .before .before .before .if1 .left))
 
