@@ -2,3 +2,4 @@
 pub mod Told
 pub mod Order
 pub mod Laws
+pub mod Pairs

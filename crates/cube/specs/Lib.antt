@@ -1,2 +1,8 @@
 -- What the crate's contracts cite, and its laws.
 pub mod Cube
+pub mod Route
+pub mod Says
+pub mod Links
+pub mod Routes
+pub mod Sizes
+pub mod Unique

@@ -1,13 +1,13 @@
 -- Case G: in the cube of 2 dimensions the paths 0, 2, 3 and 0, 1 are a fan from 0 to 3 and 1 (`case-g-fan`), and there is no other (`case-g-only`).
 -- Assumes nothing.
 use Prim.Native.Nat.{ℕ, zero, suc, _+_, _≤_, _<_}
-use mathlib.Core.Path.{_≡_, refl, sym, ap, _∙_, subst}
+use mathlib.Core.Path.{_≡_, refl, sym, ap, _∙_}
 use mathlib.Core.Bool.{true}
 use mathlib.Core.Logic.{_⊎_, inl, inr, ⊎-elim}
 use mathlib.Core.List.{List, [], _∷_}
 use native.Mathlib.Omega.{arith}
 use native.Mathlib.Decide.{ℕ-discrete}
-use lib.ListN.{length, getD}
+use lib.ListN.{getD}
 use Rattle.scan.specs.Laws.{true-false}
 use Rattle.paths.specs.Fan.{filler, relay, hops, Fan}
 use Rattle.scan.specs.Scan.{seek, any, among}

@@ -1,148 +1,168 @@
--- The fan as it is written: path j from the place j * (n + 2) on, its source first, and filler after its end.
--- `fan-asked`: what the caller shows is what the recursion asks; `fan-given`: what the rows hold is laid out. Assumes nothing.
+-- The rows of the grid before and after the recursion: each begins with its target (`Begun`), and becomes a path as it is lent (`Settled`, `Spread`).
+-- `fan-asked`: what the caller shows is what the recursion asks; `fan-given`: what it gives is laid out. Assumes nothing.
 use Prim.Native.Nat.{ℕ, zero, suc, _+_, _-_, _*_, _^_, _≤_, _<_, min}
 use mathlib.Core.Path.{_≡_, refl, sym, ap, _∙_, subst}
 use mathlib.Core.Logic.{_⊎_, inl, inr, ⊎-elim, _≢_}
-use mathlib.Core.List.{List, _∷_}
-use native.Mathlib.Nat.{suc-mul, mul-le-mul-right}
+use mathlib.Core.List.{List, [], _∷_}
 use native.Mathlib.Omega.{arith}
 use lib.Count.{ones, ones-ones}
 use lib.ListN.{length, getD, set, List·getD-eq-default}
 use lib.Seq.{getD-set-same, getD-set-other}
 use Rattle.bits.specs.Bit.{bit}
+use Rattle.bits.specs.Laws.{lt-or-le}
 use Rattle.paths.specs.Fan as fan
 use Rattle.paths.specs.Lists.{Laid}
 use Rattle.doors.specs.Doors.{Doors}
 use Rattle.doors.specs.Paths.{same-or}
-use Rattle.doors.specs.Rows.{back, back-at}
+use Rattle.doors.specs.Request.{doors-same, request-same}
 use Rattle.doors.specs.Plain.{bit-full, full-below, cube-request}
-use Rattle.grid.specs.Grid.{at, hops, hops-length}
+use Rattle.grid.specs.Grid.{ahead, ahead-at, ahead-length, row-room, count, hops, hops-length, hops-same, target, lone-target, Sets, only-rest}
 use Rattle.cube_plan.specs.Plan.{Asked, Planned}
 
 -- below i + 1 and not i
 under : (j i : ℕ) → j < i + 1 → j ≢ i → j < i
 under j i h ne = omega arith
 
--- ---- the targets are copied
+-- ---- each row holds its target
 
-pub copy-more : (l t : List ℕ) (i : ℕ) → i < length l → ((j : ℕ) → j < i → getD l j 0 ≡ getD t j 0) → (j : ℕ) → j < i + 1 → getD (set l i (getD t i 0)) j 0 ≡ getD t j 0
-copy-more l t i h a j q = ⊎-elim
-    (λ e. subst (λ (y : ℕ). getD (set l i (getD t i 0)) y 0 ≡ getD t y 0) (sym e) (getD-set-same l i (getD t i 0) 0 h))
-    (λ ne. getD-set-other l i j (getD t i 0) 0 ne ∙ a j (under j i q ne)) (same-or j i)
+-- the first r rows do; places after the last row are as they were
+pub record Begun (w : ℕ) (targets : List ℕ) (r : ℕ) (before after : List ℕ) : Type 0 where
+  pub is : (j : ℕ) → j < r → hops w after j ≡ getD targets j 0 ∷ []
+  pub beyond : (i : ℕ) → length targets * w ≤ i → getD after i 0 ≡ getD before i 0
+  pub long : length after ≡ length before
 
--- ---- the places are filled
+pub begun-none : (w : ℕ) (targets : List ℕ) (r : ℕ) (g : List ℕ) → r ≡ 0 → Begun w targets r g g
+begun-none w targets r g e = record { is = λ j h. absurd (omega arith); beyond = λ i h. refl; long = refl }
 
-pub record Filled (n : ℕ) (before after : List ℕ) : Type 0 where
-  pub at : (i : ℕ) → i < n → getD after i 0 ≡ fan.filler
-  pub rest : (i : ℕ) → n ≤ i → getD after i 0 ≡ getD before i 0
-
-pub filled-none : (n : ℕ) (l : List ℕ) → n ≡ 0 → Filled n l l
-filled-none n l e = record { at = λ i h. absurd (omega arith); rest = λ i h. refl }
-
-pub filled-more : (n : ℕ) (l m : List ℕ) → Filled n l m → n < length m → Filled (n + 1) l (set m n fan.filler)
-filled-more n l m a h = record {
-  at = λ i q. ⊎-elim
-      (λ e. ap (λ (y : ℕ). getD (set m n fan.filler) y 0) e ∙ getD-set-same m n fan.filler 0 h)
-      (λ ne. getD-set-other m n i fan.filler 0 ne ∙ a .at i (under i n q ne)) (same-or i n);
-  rest = λ i q. getD-set-other m n i fan.filler 0 (λ e. omega arith) ∙ a .rest i (omega arith);
+pub begun-more : (w : ℕ) (targets : List ℕ) (r : ℕ) (g h k : List ℕ) → Begun w targets r g h → r < length targets → Sets w h k r (getD targets r 0 ∷ [])
+    → Begun w targets (r + 1) g k
+begun-more w targets r g h k a lt b = record {
+  is = λ j q. ⊎-elim
+      (λ e. subst (λ (y : ℕ). hops w k y ≡ getD targets y 0 ∷ []) (sym e) (b .is))
+      (λ ne. only-rest (b .only) j ne ∙ a .is j (under j r q ne)) (same-or j r);
+  beyond = λ i q. let u = row-room r (length targets) w lt in b .only .out i (inr (omega arith)) ∙ a .beyond i q;
+  long = b .only .long ∙ a .long;
 }
 
-pub filled-all : {i n : ℕ} {l m : List ℕ} → i ≡ n → Filled i l m → Filled n l m
-filled-all {i} {n} {l} {m} e a = subst (λ (y : ℕ). Filled y l m) e a
+pub begun-all : {w : ℕ} {targets : List ℕ} {r k : ℕ} {g h : List ℕ} → r ≡ k → Begun w targets r g h → Begun w targets k g h
+begun-all {w} {targets} {r} {k} {g} {h} e a = subst (λ (y : ℕ). Begun w targets y g h) e a
 
--- ---- one path: the last stored relay first
+-- ---- numbers moved, and filler
 
--- p relays of the n of row j stand after the place `at`
-pub record Turned (g : List ℕ) (j n at p : ℕ) (before after : List ℕ) : Type 0 where
-  pub is : (q : ℕ) → q < p → getD after (at + 1 + q) 0 ≡ getD g (j * 35 + n - q) 0
-  pub rest : (i : ℕ) → (i ≤ at) ⊎ (at + 1 + p ≤ i) → getD after i 0 ≡ getD before i 0
+pub record Shifted (to from n : ℕ) (before after : List ℕ) : Type 0 where
+  pub is : (q : ℕ) → q < n → getD after (to + q) 0 ≡ getD before (from + q) 0
+  pub rest : (i : ℕ) → (i < to) ⊎ (to + n ≤ i) → getD after i 0 ≡ getD before i 0
 
-pub turned-none : (g : List ℕ) (j n at p : ℕ) (l : List ℕ) → p ≡ 0 → Turned g j n at p l l
-turned-none g j n at p l e = record { is = λ q h. absurd (omega arith); rest = λ i h. refl }
+pub shifted-none : (to from n : ℕ) (l : List ℕ) → n ≡ 0 → Shifted to from n l l
+shifted-none to from n l e = record { is = λ q h. absurd (omega arith); rest = λ i h. refl }
 
-pub turned-more : (g : List ℕ) (j n at p : ℕ) (l m : List ℕ) → Turned g j n at p l m → at + 1 + p < length m
-    → Turned g j n at (p + 1) l (set m (at + 1 + p) (getD g (j * 35 + n - p) 0))
-turned-more g j n at p l m a h = record {
+pub shifted-more : (to from n : ℕ) (l m : List ℕ) → Shifted to from n l m → to ≤ from → to + n < length m
+    → Shifted to from (n + 1) l (set m (to + n) (getD m (from + n) 0))
+shifted-more to from n l m a le h = record {
   is = λ q r. ⊎-elim
-      (λ e. subst (λ (y : ℕ). getD new (at + 1 + y) 0 ≡ getD g (j * 35 + n - y) 0) (sym e) (getD-set-same m (at + 1 + p) (getD g (j * 35 + n - p) 0) 0 h))
-      (λ ne. other (at + 1 + q) (λ e. ne (omega arith)) ∙ a .is q (under q p r ne)) (same-or q p);
-  rest = λ i r. other i (λ e. ⊎-elim (λ (y : i ≤ at). omega arith) (λ y. omega arith) r) ∙ a .rest i (⊎-elim inl (λ y. inr (omega arith)) r);
+      (λ e. subst (λ (y : ℕ). getD new (to + y) 0 ≡ getD l (from + y) 0) (sym e)
+      (getD-set-same m (to + n) (getD m (from + n) 0) 0 h ∙ a .rest (from + n) (inr (omega arith))))
+      (λ ne. other (to + q) (λ e. ne (omega arith)) ∙ a .is q (under q n r ne)) (same-or q n);
+  rest = λ i r. other i (λ e. ⊎-elim (λ (y : i < to). omega arith) (λ y. omega arith) r) ∙ a .rest i (⊎-elim inl (λ y. inr (omega arith)) r);
 }
   where
     new : List ℕ
-    new = set m (at + 1 + p) (getD g (j * 35 + n - p) 0)
+    new = set m (to + n) (getD m (from + n) 0)
 
-    other : (i : ℕ) → i ≢ at + 1 + p → getD new i 0 ≡ getD m i 0
-    other i ne = getD-set-other m (at + 1 + p) i (getD g (j * 35 + n - p) 0) 0 ne
+    other : (i : ℕ) → i ≢ to + n → getD new i 0 ≡ getD m i 0
+    other i ne = getD-set-other m (to + n) i (getD m (from + n) 0) 0 ne
 
-pub turned-all : {g : List ℕ} {j n at p r : ℕ} {l m : List ℕ} → p ≡ r → Turned g j n at p l m → Turned g j n at r l m
-turned-all {g} {j} {n} {at} {p} {r} {l} {m} e a = subst (λ (y : ℕ). Turned g j n at y l m) e a
+pub shifted-all : {to from q n : ℕ} {l m : List ℕ} → q ≡ n → Shifted to from q l m → Shifted to from n l m
+shifted-all {to} {from} {q} {n} {l} {m} e a = subst (λ (y : ℕ). Shifted to from y l m) e a
 
--- ---- all paths
+pub record Filled (from to : ℕ) (before after : List ℕ) : Type 0 where
+  pub is : (i : ℕ) → from ≤ i → i < to → getD after i 0 ≡ fan.filler
+  pub rest : (i : ℕ) → (i < from) ⊎ (to ≤ i) → getD after i 0 ≡ getD before i 0
 
--- of k rows the first r are written
-pub record Spread (g : List ℕ) (s w k r : ℕ) (before after counted counts : List ℕ) : Type 0 where
-  pub at : (j p : ℕ) → j < r → p < w → getD after (j * w + p) 0 ≡ getD (s ∷ hops g j) p fan.filler
-  pub ahead : (i : ℕ) → r * w ≤ i → i < k * w → getD after i 0 ≡ fan.filler
-  pub count : (j : ℕ) → j < r → getD counts j 0 ≡ getD g (j * 35) 0
-  pub rest : (i : ℕ) → k * w ≤ i → getD after i 0 ≡ getD before i 0
+pub filled-none : (from to : ℕ) (l : List ℕ) → to ≡ from → Filled from to l l
+filled-none from to l e = record { is = λ i h g. absurd (omega arith); rest = λ i h. refl }
+
+pub filled-more : (from to : ℕ) (l m : List ℕ) → Filled from to l m → to < length m → from ≤ to → Filled from (to + 1) l (set m to fan.filler)
+filled-more from to l m a h le = record {
+  is = λ i q r. ⊎-elim
+      (λ e. ap (λ (y : ℕ). getD (set m to fan.filler) y 0) e ∙ getD-set-same m to fan.filler 0 h)
+      (λ ne. getD-set-other m to i fan.filler 0 ne ∙ a .is i q (under i to r ne)) (same-or i to);
+  rest = λ i q. getD-set-other m to i fan.filler 0 (λ e. ⊎-elim (λ (y : i < from). omega arith) (λ y. omega arith) q)
+      ∙ a .rest i (⊎-elim inl (λ y. inr (omega arith)) q);
+}
+
+pub filled-all : {from i to : ℕ} {l m : List ℕ} → i ≡ to → Filled from i l m → Filled from to l m
+filled-all {from} {i} {to} {l} {m} e a = subst (λ (y : ℕ). Filled from y l m) e a
+
+-- ---- one row
+
+-- the n relays at the end of the row stand after s, with filler after them
+pub record Settled (s w at : ℕ) (before after : List ℕ) (n : ℕ) : Type 0 where
+  pub hops : n ≡ getD before at 0
+  pub is : (p : ℕ) → p < w → getD after (at + p) 0 ≡ getD (s ∷ ahead before (at + w - n) n) p fan.filler
+  pub rest : (i : ℕ) → (i < at) ⊎ (at + w ≤ i) → getD after i 0 ≡ getD before i 0
+
+pub settled : (s w at n from : ℕ) (l m o : List ℕ) → n ≡ getD l at 0 → n < w → at < length o → from ≡ at + w - n → Shifted (at + 1) from n l m
+    → Filled (at + 1 + n) (at + w) m o → Settled s w at l (set o at s) n
+settled s w at n from l m o e few lt ef a b = record {
+  hops = e;
+  is = λ p h. place p h;
+  rest = λ i h. other i (λ z. ⊎-elim (λ (y : i < at). omega arith) (λ y. omega arith) h)
+      ∙ b .rest i (⊎-elim (λ (y : i < at). inl (omega arith)) (λ y. inr y) h)
+      ∙ a .rest i (⊎-elim (λ (y : i < at). inl (omega arith)) (λ y. inr (omega arith)) h);
+}
+  where
+    other : (i : ℕ) → i ≢ at → getD (set o at s) i 0 ≡ getD o i 0
+    other i ne = getD-set-other o at i s 0 ne
+
+    place : (p : ℕ) → p < w → getD (set o at s) (at + p) 0 ≡ getD (s ∷ ahead l (at + w - n) n) p fan.filler
+    place zero h = ap (λ (i : ℕ). getD (set o at s) i 0) (omega arith) ∙ getD-set-same o at s 0 lt
+    place (suc p) h = other (at + suc p) (λ z. omega arith) ∙ go (lt-or-le p n)
+      where
+        go : (p < n) ⊎ (n ≤ p) → getD o (at + suc p) 0 ≡ getD (ahead l (at + w - n) n) p fan.filler
+        go (inl q) =
+            b .rest (at + suc p) (inl (omega arith)) ∙ ap (λ (i : ℕ). getD m i 0) (omega arith) ∙ a .is p q
+            ∙ ap (λ (f : ℕ). getD l (f + p) 0) ef ∙ sym (ahead-at l (at + w - n) n fan.filler p q)
+        go (inr q) =
+            b .is (at + suc p) (omega arith) (omega arith)
+            ∙ sym (List·getD-eq-default (ahead l (at + w - n) n) fan.filler {n = p} (omega (arith, ahead-length l (at + w - n) n)))
+
+-- ---- all rows
+
+-- the first r rows are paths as they are lent, with their hops; places after them and other counts are as they were
+pub record Spread (s w r : ℕ) (before after counted counts : List ℕ) : Type 0 where
+  pub at : (j p : ℕ) → j < r → p < w → getD after (j * w + p) 0 ≡ getD (s ∷ hops w before j) p fan.filler
+  pub count : (j : ℕ) → j < r → getD counts j 0 ≡ getD before (j * w) 0
+  pub ahead : (i : ℕ) → r * w ≤ i → getD after i 0 ≡ getD before i 0
   pub kept : (i : ℕ) → r ≤ i → getD counts i 0 ≡ getD counted i 0
 
-pub row-room : (j k w : ℕ) → j < k → j * w + w ≤ k * w
-row-room j k w h = rw suc-mul at (mul-le-mul-right {m = suc j} w h)
+pub spread-none : (s w r : ℕ) (l c : List ℕ) → r ≡ 0 → Spread s w r l l c c
+spread-none s w r l c e = record { at = λ j p h. absurd (omega arith); count = λ j h. absurd (omega arith); ahead = λ i h. refl; kept = λ i h. refl }
 
-pub spread-none : (g : List ℕ) (s w k r : ℕ) (l m c : List ℕ) → Filled (k * w) l m → r ≡ 0 → Spread g s w k r l m c c
-spread-none g s w k r l m c a e = record {
-  at = λ j p h. absurd (omega arith);
-  ahead = λ i h q. a .at i q;
-  count = λ j h. absurd (omega arith);
-  rest = a .rest;
-  kept = λ i h. refl;
-}
-
-pub spread-all : {g : List ℕ} {s w k r q : ℕ} {l m c d : List ℕ} → r ≡ q → Spread g s w k r l m c d → Spread g s w k q l m c d
-spread-all {g} {s} {w} {k} {r} {q} {l} {m} {c} {d} e a = subst (λ (y : ℕ). Spread g s w k y l m c d) e a
-
--- what the places of a row hold, when it is written over filler
-written : (g : List ℕ) (s j n at w : ℕ) (l m : List ℕ) → n ≡ getD g (j * 35) 0 → n ≤ 33 → n < w → at < length m → Turned g j n at n l m
-    → ((p : ℕ) → p < w → getD l (at + p) 0 ≡ fan.filler) → (p : ℕ) → p < w → getD (set m at s) (at + p) 0 ≡ getD (s ∷ hops g j) p fan.filler
+pub spread-more : (s w r n : ℕ) (l m o c d : List ℕ) → Spread s w r l m c d → getD l (r * w) 0 < w → r < length d → Settled s w (r * w) m o n
+    → Spread s w (r + 1) l o c (set d r n)
 unfolding hops
-written g s j n at w l m e few short lt a blank zero q = ap (λ (i : ℕ). getD (set m at s) i 0) (omega arith) ∙ getD-set-same m at s 0 lt
-written g s j n at w l m e few short lt a blank (suc p) q = getD-set-other m at (at + suc p) s 0 (λ z. omega arith) ∙ go (Rattle.bits.specs.Laws.lt-or-le p n)
+spread-more s w r n l m o c d a few lt b =
+    let same : n ≡ getD l (r * w) 0 = b .hops ∙ a .ahead (r * w) (omega arith) in
+    let all : min w n ≡ n = whole n w (omega arith) in
+    let path : ahead m (r * w + w - n) n ≡ hops w l r =
+    sym (ap (λ (c : ℕ). ahead m (r * w + w - c) c) (ap (min w) (sym (b .hops)) ∙ all)) ∙ hops-same w r l m (λ i x y. a .ahead i x) in
+    record {
+      at = λ j p q h. ⊎-elim
+          (λ z. subst (λ (y : ℕ). getD o (y * w + p) 0 ≡ getD (s ∷ hops w l y) p fan.filler) (sym z) (b .is p h ∙ ap (λ (x : List ℕ). getD (s ∷ x) p fan.filler) path))
+          (λ ne. let u = row-room j r w (under j r q ne) in b .rest (j * w + p) (inl (omega arith)) ∙ a .at j p (under j r q ne) h) (same-or j r);
+      count = λ j q. ⊎-elim
+          (λ z. ap (λ (y : ℕ). getD (set d r n) y 0) z ∙ getD-set-same d r n 0 lt ∙ same ∙ ap (λ (y : ℕ). getD l (y * w) 0) (sym z))
+          (λ ne. getD-set-other d r j n 0 ne ∙ a .count j (under j r q ne)) (same-or j r);
+      ahead = λ i q. let u = row-room r (r + 1) w (omega arith) in b .rest i (inr (omega arith)) ∙ a .ahead i (omega arith);
+      kept = λ i q. getD-set-other d r i n 0 (λ z. omega arith) ∙ a .kept i (omega arith);
+    }
   where
-    same : n ≡ min 34 (getD g (j * 35) 0)
-    same = omega arith
+    whole : (n w : ℕ) → n < w → min w n ≡ n
+    whole n w h = omega arith
 
-    go : (p < n) ⊎ (n ≤ p) → getD m (at + suc p) 0 ≡ getD (back g (j * 35 + 1) (min 34 (getD g (j * 35) 0))) p fan.filler
-    go (inl h) =
-        ap (λ (i : ℕ). getD m i 0) (omega arith) ∙ a .is p h ∙ ap (λ (i : ℕ). getD g i 0) (omega arith)
-        ∙ sym (back-at g (j * 35 + 1) n fan.filler p h) ∙ ap (λ (c : ℕ). getD (back g (j * 35 + 1) c) p fan.filler) same
-    go (inr h) =
-        a .rest (at + suc p) (inr (omega arith)) ∙ blank (suc p) q
-        ∙ sym (List·getD-eq-default (back g (j * 35 + 1) (min 34 (getD g (j * 35) 0))) fan.filler {n = p} (omega (arith, hops-length g j)))
-
-pub spread-more : (g : List ℕ) (s w k r n : ℕ) (l m o c d : List ℕ) → Spread g s w k r l m c d → n ≡ getD g (r * 35) 0 → n ≤ 33 → n < w → r < k
-    → r * w < length o → r < length d → Turned g r n (r * w) n m o → Spread g s w k (r + 1) l (set o (r * w) s) c (set d r n)
-spread-more g s w k r n l m o c d a e few short lt room counted b = record {
-  at = λ j p q h. ⊎-elim
-      (λ z. subst (λ (y : ℕ). getD (set o (r * w) s) (y * w + p) 0 ≡ getD (s ∷ hops g y) p fan.filler) (sym z) (mine p h))
-      (λ ne. let u = row-room j r w (under j r q ne) in old (j * w + p) (inl (omega arith)) ∙ a .at j p (under j r q ne) h) (same-or j r);
-  ahead = λ i q h. let u = row-room r (r + 1) w (omega arith) in old i (inr (omega arith)) ∙ a .ahead i (omega arith) h;
-  count = λ j q. ⊎-elim
-      (λ z. ap (λ (y : ℕ). getD (set d r n) y 0) z ∙ getD-set-same d r n 0 counted ∙ e ∙ ap (λ (y : ℕ). getD g (y * 35) 0) (sym z))
-      (λ ne. getD-set-other d r j n 0 ne ∙ a .count j (under j r q ne)) (same-or j r);
-  rest = λ i q. let u = row-room r k w lt in old i (inr (omega arith)) ∙ a .rest i q;
-  kept = λ i q. getD-set-other d r i n 0 (λ z. omega arith) ∙ a .kept i (omega arith);
-}
-  where
-    mine : (p : ℕ) → p < w → getD (set o (r * w) s) (r * w + p) 0 ≡ getD (s ∷ hops g r) p fan.filler
-    mine = written g s r n (r * w) w m o e few short room b (λ p h. let u = row-room r k w lt in a .ahead (r * w + p) (omega arith) (omega arith))
-
-    -- outside the path's places nothing changes
-    old : (i : ℕ) → (i < r * w) ⊎ (r * w + w ≤ i) → getD (set o (r * w) s) i 0 ≡ getD m i 0
-    old i h =
-        getD-set-other o (r * w) i s 0 (λ z. ⊎-elim (λ (y : i < r * w). omega arith) (λ y. omega arith) h)
-        ∙ b .rest i (⊎-elim (λ y. inl (omega arith)) (λ y. inr (omega arith)) h)
+pub spread-all : {s w r k : ℕ} {l m c d : List ℕ} → r ≡ k → Spread s w r l m c d → Spread s w k l m c d
+spread-all {s} {w} {r} {k} {l} {m} {c} {d} e a = subst (λ (y : ℕ). Spread s w y l m c d) e a
 
 -- ---- the fan
 
@@ -162,55 +182,57 @@ pub record Sought (n s shut : ℕ) (targets places counts : List ℕ) : Type 0 w
 -- what is given: paths that are a fan through doors, laid out; what lies beyond is as it was
 pub record Given (n s shut : ℕ) (targets places counts places₁ counts₁ : List ℕ) : Type 0 where
   pub paths : ℕ → List ℕ
-  pub doors : Doors n (2 ^ n - 1) s shut (2 ^ length targets - 1) (at targets) paths
+  pub doors : Doors n (2 ^ n - 1) s shut (2 ^ length targets - 1) (λ j. getD targets j 0) paths
   pub laid : Laid (n + 2) s (length targets) paths places₁ counts₁
   pub beyond : (i : ℕ) → length targets * (n + 2) ≤ i → getD places₁ i 0 ≡ getD places i 0
   pub kept : (i : ℕ) → length targets ≤ i → getD counts₁ i 0 ≡ getD counts i 0
 
--- the same fan, to targets told otherwise
-doors-same : {n free s shut k : ℕ} {to : ℕ → ℕ} {paths : ℕ → List ℕ} (again : ℕ → ℕ) → ((j : ℕ) → j < k → to j ≡ again j)
-    → Doors n free s shut (2 ^ k - 1) to paths → Doors n free s shut (2 ^ k - 1) again paths
-doors-same {n} {free} {s} {shut} {k} {to} {paths} again e f = record {
-  each = λ j o. subst (λ (t : ℕ). Rattle.doors.specs.Doors.Way n free s shut t (paths j)) (e j (full-below k j o)) (f .each j o);
-  apart = f .apart;
-}
-
-module _ (n s shut : ℕ) (targets places counts to : List ℕ) (q : Sought n s shut targets places counts)
-    (copy : (j : ℕ) → j < length targets → getD to j 0 ≡ getD targets j 0) where
+module _ (n s shut : ℕ) (targets places counts g : List ℕ) (q : Sought n s shut targets places counts)
+    (a : Begun (n + 2) targets (length targets) places g) where
   abbrev k : ℕ
   k = length targets
 
-  pub fan-asked : (free m : ℕ) (g : List ℕ) → free ≡ 2 ^ n - 1 → m ≡ 2 ^ k - 1 → length g ≡ 1120 → Asked free s shut m to g
-  fan-asked free m g ef em long =
-      subst (λ (x : ℕ). Asked x s shut m to g) (sym ef) (subst (λ (x : ℕ). Asked (2 ^ n - 1) s shut x to g) (sym em) (record {
-        request = cube-request n s shut k (at to) (q .few) (q .held) (q .source)
-            (λ j h. subst (λ (x : ℕ). x < 2 ^ n) (sym (copy j h)) (q .below j h))
-            (λ j h e. q .other j h (sym (copy j h) ∙ e))
-            (λ i j h p ne e. q .differ i j h p ne (sym (copy i h) ∙ e ∙ copy j p));
-        small = omega (arith, ones-ones n, q .size);
-        rows = record { below = λ j o. omega (arith, full-below k j o, q .few, q .size) };
-        long = long;
+  abbrev to : ℕ → ℕ
+  to j = getD targets j 0
+
+  -- the row of each target holds it
+  held : (j : ℕ) → bit j (2 ^ k - 1) ≡ 1 → target (n + 2) g j ≡ to j
+  held j o = lone-target (n + 2) g j (to j) (a .is j (full-below k j o))
+
+  pub fan-asked : (free m : ℕ) → free ≡ 2 ^ n - 1 → m ≡ 2 ^ k - 1 → Asked free s shut m (n + 2) g
+  fan-asked free m ef em =
+      subst (λ (x : ℕ). Asked x s shut m (n + 2) g) (sym ef) (subst (λ (x : ℕ). Asked (2 ^ n - 1) s shut x (n + 2) g) (sym em) (record {
+        request = request-same (target (n + 2) g) held (cube-request n s shut k to (q .few) (q .held) (q .source) (q .below) (q .other) (q .differ));
+        small = omega (arith, ones-ones n);
+        rows = record { wide = omega arith; room = λ j o. omega (arith, row-room j k (n + 2) (full-below k j o), q .room, a .long) };
+        new = record { is = λ j o. a .is j (full-below k j o) ∙ ap (λ (t : ℕ). t ∷ []) (sym (held j o)) };
       }))
 
-  module _ (free m : ℕ) (g g₁ : List ℕ) (ef : free ≡ 2 ^ n - 1) (em : m ≡ 2 ^ k - 1) (p : Planned free s shut m to g g₁) where
-    doors : Doors n (2 ^ n - 1) s shut (2 ^ k - 1) (at targets) (hops g₁)
-    doors = doors-same (at targets) copy (subst (λ (c : ℕ). Doors c (2 ^ n - 1) s shut (2 ^ k - 1) (at to) (hops g₁)) (ones-ones n)
-        (subst (λ (x : ℕ). Doors (ones (2 ^ n - 1)) (2 ^ n - 1) s shut x (at to) (hops g₁)) em
-        (subst (λ (x : ℕ). Doors (ones x) x s shut m (at to) (hops g₁)) ef (p .fan))))
+  module _ (free m : ℕ) (g₁ : List ℕ) (ef : free ≡ 2 ^ n - 1) (em : m ≡ 2 ^ k - 1) (p : Planned free s shut m (n + 2) g g₁) where
+    doors : Doors n (2 ^ n - 1) s shut (2 ^ k - 1) to (hops (n + 2) g₁)
+    doors = doors-same to (λ j o. sym (held j o)) (subst (λ (c : ℕ). Doors c (2 ^ n - 1) s shut (2 ^ k - 1) (target (n + 2) g) (hops (n + 2) g₁)) (ones-ones n)
+        (subst (λ (x : ℕ). Doors (ones (2 ^ n - 1)) (2 ^ n - 1) s shut x (target (n + 2) g) (hops (n + 2) g₁)) em
+        (subst (λ (x : ℕ). Doors (ones x) x s shut m (target (n + 2) g) (hops (n + 2) g₁)) ef (p .fan))))
+
+    pub fan-long : length g₁ ≡ length places
+    fan-long = p .keeps .long ∙ a .long
 
     -- each row says how many relays it has
-    pub fan-count : (j : ℕ) → j < k → getD g₁ (j * 35) 0 ≤ n + 1
-    fan-count j h = omega (arith, doors .each j (bit-full k j h) .short, hops-length g₁ j, q .size)
+    pub fan-count : (j : ℕ) → j < k → getD g₁ (j * (n + 2)) 0 < n + 2
+    fan-count j h = omega (arith, doors .each j (bit-full k j h) .short, hops-length (n + 2) g₁ j)
 
-    pub fan-given : (places₁ counts₁ : List ℕ) → Spread g₁ s (n + 2) k k places places₁ counts counts₁ → Given n s shut targets places counts places₁ counts₁
+    pub fan-given : (places₁ counts₁ : List ℕ) → Spread s (n + 2) k g₁ places₁ counts counts₁ → Given n s shut targets places counts places₁ counts₁
     unfolding fan.relay fan.hops
-    fan-given places₁ counts₁ a = record {
-      paths = hops g₁;
+    fan-given places₁ counts₁ b = record {
+      paths = hops (n + 2) g₁;
       doors = doors;
       laid = record {
-        at = λ i c h l. a .at i c h l;
-        count = λ i h. a .count i h ∙ omega (arith, fan-count i h, hops-length g₁ i, q .size);
+        at = λ i c h l. b .at i c h l;
+        count = λ i h. b .count i h ∙ omega (arith, fan-count i h, hops-length (n + 2) g₁ i);
       };
-      beyond = a .rest;
-      kept = a .kept;
+      beyond = λ i h. b .ahead i h ∙ p .keeps .out i (λ j o. let u = row-room j k (n + 2) (below j o) in inr (omega arith)) ∙ a .beyond i h;
+      kept = b .kept;
     }
+      where
+        below : (j : ℕ) → bit j m ≡ 1 → j < k
+        below j o = full-below k j (sym (ap (bit j) em) ∙ o)

@@ -9,3 +9,4 @@ pub mod Whole
 pub mod Survive
 pub mod Walk
 pub mod Walks
+pub mod Walked

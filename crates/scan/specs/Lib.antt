@@ -1,3 +1,4 @@
 -- Runs of numbers searched and counted: the definitions and their laws.
 pub mod Scan
 pub mod Laws
+pub mod Counts

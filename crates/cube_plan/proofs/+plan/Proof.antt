@@ -1,7 +1,9 @@
--- `cube_plan::plan` meets its contract. Assumes nothing.
+-- `cube_plan::plan` meets its contract. It calls itself for the far and for the near side, each with one dimension less: the measure is how many are
+-- free. Assumes nothing.
+use mathlib.Core.Path.{refl, _∙_}
 use native.Mathlib.Omega.{arith}
 use lib.Count.{ones}
-use Rattle.cube_plan.specs.Plan.{left-request, left-settled, left-rows, left-long, left-all, none-left, lone-left, one-left, two-left, rest-less, far-asked, far-long, far-ready, near-asked, both}
+use Rattle.cube_plan.specs.Plan.{remains, none-left, lone-left, one-left, two-left, left-wide, left-all, rest-less, far-asked, far-ready, near-asked, both}
 use borrow.Author.Needs.{needs}
 use Prim.Native.Nat.{ℕ, _<_}
 use borrow.Fn.Kinds.{In}
@@ -32,13 +34,16 @@ abbrev K-plan : ℕ → plan-lts.Claims
 K-plan t = (sort-reads.Asked, sort-reads.Learnt, lowest-reads.Asked, lowest-reads.Learnt, flip-reads.Asked, flip-reads.Learnt, single-reads.Asked, single-reads.Learnt, divide-reads.Asked, divide-reads.Learnt, plan-below t, plan.Post, bring-reads.Asked, bring-reads.Learnt, less-reads.Asked, less-reads.Learnt)
 
 plan-sort-requires : (t : ℕ) → plan-lts.Need-sort-requires (K-plan t) (plan-at t) plan.Post
-plan-sort-requires t c κs = let q = c .before .pre .1 in (q .rows, q .long, q .request .held)
+plan-sort-requires t c κs = let q = c .before .before .pre .1 in (q .rows, q .new, q .request .held)
+
+plan-same-length : (t : ℕ) → plan-lts.Need-same-length (K-plan t) (plan-at t) plan.Post
+plan-same-length t c = refl
 
 plan-returns : (t : ℕ) → plan-lts.Need-returns (K-plan t) (plan-at t) plan.Post
 plan-returns t c =
-    let q = c .before .before .before .pre .1 in
-    let a = c .before .sort .ensures .0 in
-    let k = c .before .sort .ensures .1 in none-left _ _ _ _ _ _ q _ _ _ a k (c .if1 .taken)
+    let p = c .before in
+    let q = p .before .before .before .pre .1 in
+    let a = p .sort .ensures in none-left _ _ _ _ _ _ q _ _ a (c .if1 .taken)
 
 plan-lowest-requires : (t : ℕ) → plan-lts.Need-lowest-requires (K-plan t) (plan-at t) plan.Post
 plan-lowest-requires t c κs = search needs
@@ -49,107 +54,94 @@ plan-flip-requires t c κs = search needs
 plan-cast-single : (t : ℕ) → plan-lts.Need-cast-single (K-plan t) (plan-at t) plan.Post
 plan-cast-single t c = search needs
 
-plan-mul-single : (t : ℕ) → plan-lts.Need-mul-single (K-plan t) (plan-at t) plan.Post
-plan-mul-single t c = search needs
-
-plan-array-read-single : (t : ℕ) → plan-lts.Need-array-read-single (K-plan t) (plan-at t) plan.Post
-plan-array-read-single t c =
-    let q = c .before .before .before .before .before .before .pre .1 in
-    let a = c .before .before .before .before .sort .ensures .0 in
-    let k = c .before .before .before .before .sort .ensures .1 in left-rows _ _ _ _ _ _ q _ _ _ a k .below _ (c .before .before .lowest .ensures .set)
-
-plan-cast-single-2 : (t : ℕ) → plan-lts.Need-cast-single-2 (K-plan t) (plan-at t) plan.Post
-plan-cast-single-2 t c = search needs
-
 plan-single-requires : (t : ℕ) → plan-lts.Need-single-requires (K-plan t) (plan-at t) plan.Post
 plan-single-requires t c κs =
-    let q = c .before .before .before .before .before .before .before .pre .1 in
-    let a = c .before .before .before .before .before .sort .ensures .0 in
-    let k = c .before .before .before .before .before .sort .ensures .1 in lone-left _ _ _ _ _ _ q _ _ _ a k _ (c .before .before .before .lowest .ensures .set)
+    let p = c .before .before .before .before .before in
+    let q = p .before .before .before .pre .1 in
+    let a = p .sort .ensures in lone-left _ _ _ _ _ _ q _ _ a _ (c .before .before .before .lowest .ensures .set)
+
+plan-same-length-2 : (t : ℕ) → plan-lts.Need-same-length-2 (K-plan t) (plan-at t) plan.Post
+plan-same-length-2 t c = c .before .before .single .ensures .only .long
 
 plan-returns-2 : (t : ℕ) → plan-lts.Need-returns-2 (K-plan t) (plan-at t) plan.Post
 plan-returns-2 t c =
-    let q = c .before .before .before .before .before .before .before .before .pre .1 in
-    let a = c .before .before .before .before .before .before .sort .ensures .0 in
-    let k = c .before .before .before .before .before .before .sort .ensures .1 in one-left _ _ _ _ _ _ q _ _ _ a k _ _ _ (c .before .before .before .before .lowest .ensures .set) (c .before .before .before .flip .ensures) (c .before .before .if2 .taken) (c .single .ensures)
+    let p = c .before .before .before .before .before .before .before .before in
+    let q = p .before .before .before .pre .1 in
+    let a = p .sort .ensures in
+    one-left _ _ _ _ _ _ q _ _ a _ _ _ (c .before .before .before .before .before .before .lowest .ensures .set) (c .before .before .before .before .before .flip .ensures) (c .before .before .before .before .if2 .taken) (c .before .before .single .ensures)
 
 plan-divide-requires : (t : ℕ) → plan-lts.Need-divide-requires (K-plan t) (plan-at t) plan.Post
 plan-divide-requires t c κs =
-    let q = c .before .before .before .before .before .before .pre .1 in
-    let a = c .before .before .before .before .sort .ensures .0 in
-    let k = c .before .before .before .before .sort .ensures .1 in (left-rows _ _ _ _ _ _ q _ _ _ a k, two-left _ _ _ _ _ _ q _ _ _ a k _ _ (c .before .before .lowest .ensures .set) (c .before .flip .ensures) (c .if2 .left), left-request _ _ _ _ _ _ q _ _ _ a k, left-settled _ _ _ _ _ _ q _ _ _ a k)
+    let p = c .before .before .before .before .before in
+    let q = p .before .before .before .pre .1 in
+    let a = p .sort .ensures in
+    let h = remains _ _ _ _ _ _ q _ _ a in
+    let two = two-left _ _ _ _ _ _ q _ _ a _ _ (c .before .before .before .lowest .ensures .set) (c .before .before .flip .ensures) (c .before .if2 .left) in
+    (h .rows, two, h .request, h .settled, h .new)
 
 plan-plan-requires : (t : ℕ) → plan-lts.Need-plan-requires (K-plan t) (plan-at t) plan.Post
 plan-plan-requires t c κs =
-    let q = c .before .before .before .before .before .before .before .before .before .pre .1 in
-    let a = c .before .before .before .before .before .before .before .sort .ensures .0 in
-    let k = c .before .before .before .before .before .before .before .sort .ensures .1 in
-    let lq = left-request _ _ _ _ _ _ q _ _ _ a k in
-    let ls = left-settled _ _ _ _ _ _ q _ _ _ a k in
-    let lr = left-rows _ _ _ _ _ _ q _ _ _ a k in
-    let d = c .before .before .divide .ensures in
-    (omega (arith, c .before .before .before .before .before .before .before .before .before .pre .0, rest-less _ _ _ _ _ lq ls lr (q .small) _ _ _ _ _ _ _ d), far-asked _ _ _ _ _ lq ls lr (q .small) _ _ _ _ _ _ _ d _ (left-long _ _ _ _ _ _ q _ _ _ a k))
+    let p = c .before .before .before .before .before .before .before .before .before in
+    let q = p .before .before .before .pre .1 in
+    let a = p .sort .ensures in
+    let h = remains _ _ _ _ _ _ q _ _ a in
+    let d = c .before .before .before .divide .ensures in
+    (omega (arith, c .before .before .before .before .before .before .before .before .before .before .before .before .pre .0, rest-less _ _ _ _ _ _ h _ _ _ _ _ _ _ d), far-asked _ _ _ _ _ _ h _ _ _ _ _ _ _ d)
 
 plan-bring-requires : (t : ℕ) → plan-lts.Need-bring-requires (K-plan t) (plan-at t) plan.Post
 plan-bring-requires t c κs =
-    let q = c .before .before .before .before .before .before .before .before .before .before .before .pre .1 in
-    let a = c .before .before .before .before .before .before .before .before .before .sort .ensures .0 in
-    let k = c .before .before .before .before .before .before .before .before .before .sort .ensures .1 in
-    let lq = left-request _ _ _ _ _ _ q _ _ _ a k in
-    let ls = left-settled _ _ _ _ _ _ q _ _ _ a k in
-    let lr = left-rows _ _ _ _ _ _ q _ _ _ a k in
-    let d = c .before .before .before .before .divide .ensures in
-    let p = c .before .plan .ensures in
-    let h = left-long _ _ _ _ _ _ q _ _ _ a k in
-    (d .half .small, far-long _ _ _ _ _ lq ls lr (q .small) _ _ _ _ _ _ _ d _ _ h p, far-ready _ _ _ _ _ lq ls lr (q .small) _ _ _ _ _ _ _ d _ _ h p, d .half .far-some, d .stands .sub)
+    let p = c .before .before .before .before .before .before .before .before .before .before .before .before .before in
+    let q = p .before .before .before .pre .1 in
+    let a = p .sort .ensures in
+    let h = remains _ _ _ _ _ _ q _ _ a in
+    let two = two-left _ _ _ _ _ _ q _ _ a _ _ (c .before .before .before .before .before .before .before .before .before .before .before .lowest .ensures .set) (c .before .before .before .before .before .before .before .before .before .before .flip .ensures) (c .before .before .before .before .before .before .before .before .before .if2 .left) in
+    let d = c .before .before .before .before .before .before .before .divide .ensures in
+    (d .half .small, left-wide _ _ _ _ _ _ q _ _ a two, far-ready _ _ _ _ _ _ h _ _ _ _ _ _ _ d _ (c .before .before .before .plan .ensures), d .half .far-some, d .stands .sub)
 
 plan-less-requires : (t : ℕ) → plan-lts.Need-less-requires (K-plan t) (plan-at t) plan.Post
 plan-less-requires t c κs = search needs
 
 plan-plan-requires-2 : (t : ℕ) → plan-lts.Need-plan-requires-2 (K-plan t) (plan-at t) plan.Post
 plan-plan-requires-2 t c κs =
-    let q = c .before .before .before .before .before .before .before .before .before .before .before .before .before .before .before .pre .1 in
-    let a = c .before .before .before .before .before .before .before .before .before .before .before .before .before .sort .ensures .0 in
-    let k = c .before .before .before .before .before .before .before .before .before .before .before .before .before .sort .ensures .1 in
-    let lq = left-request _ _ _ _ _ _ q _ _ _ a k in
-    let ls = left-settled _ _ _ _ _ _ q _ _ _ a k in
-    let lr = left-rows _ _ _ _ _ _ q _ _ _ a k in
-    let d = c .before .before .before .before .before .before .before .before .divide .ensures in
-    let p = c .before .before .before .before .before .plan .ensures in
-    let h = left-long _ _ _ _ _ _ q _ _ _ a k in
-    (omega (arith, c .before .before .before .before .before .before .before .before .before .before .before .before .before .before .before .pre .0, rest-less _ _ _ _ _ lq ls lr (q .small) _ _ _ _ _ _ _ d), near-asked _ _ _ _ _ lq ls lr (q .small) _ _ _ _ _ _ _ d _ _ h p _ _ (c .before .before .before .bring .ensures) _ (c .before .before .less .ensures))
+    let p = c .before .before .before .before .before .before .before .before .before .before .before .before .before .before .before .before .before .before .before in
+    let q = p .before .before .before .pre .1 in
+    let a = p .sort .ensures in
+    let h = remains _ _ _ _ _ _ q _ _ a in
+    let d = c .before .before .before .before .before .before .before .before .before .before .before .before .before .divide .ensures in (
+      omega (arith, c .before .before .before .before .before .before .before .before .before .before .before .before .before .before .before .before .before .before .before .before .before .before .pre .0, rest-less _ _ _ _ _ _ h _ _ _ _ _ _ _ d),
+      near-asked _ _ _ _ _ _ h _ _ _ _ _ _ _ d _ (c .before .before .before .before .before .before .before .before .before .plan .ensures) _ _ (c .before .before .before .before .before .bring .ensures) _ (c .before .before .less .ensures),
+    )
+
+plan-same-length-3 : (t : ℕ) → plan-lts.Need-same-length-3 (K-plan t) (plan-at t) plan.Post
+plan-same-length-3 t c = c .before .before .plan2 .ensures .keeps .long ∙ c .before .before .before .before .before .before .before .before .bring .ensures .keeps .long ∙ c .before .before .before .before .before .before .before .before .before .before .before .before .plan .ensures .keeps .long ∙ c .before .before .before .before .before .before .before .before .before .before .before .before .before .before .before .before .divide .ensures .keeps .long
 
 plan-returns-3 : (t : ℕ) → plan-lts.Need-returns-3 (K-plan t) (plan-at t) plan.Post
 plan-returns-3 t c =
-    let q = c .before .before .before .before .before .before .before .before .before .before .before .before .before .before .before .before .pre .1 in
-    let a = c .before .before .before .before .before .before .before .before .before .before .before .before .before .before .sort .ensures .0 in
-    let k = c .before .before .before .before .before .before .before .before .before .before .before .before .before .before .sort .ensures .1 in
-    let lq = left-request _ _ _ _ _ _ q _ _ _ a k in
-    let ls = left-settled _ _ _ _ _ _ q _ _ _ a k in
-    let lr = left-rows _ _ _ _ _ _ q _ _ _ a k in
-    let d = c .before .before .before .before .before .before .before .before .before .divide .ensures in
-    let p = c .before .before .before .before .before .before .plan .ensures in
-    let h = left-long _ _ _ _ _ _ q _ _ _ a k in
-    let r = both _ _ _ _ _ lq ls lr (q .small) _ _ _ _ _ _ _ d _ _ h p _ _ (c .before .before .before .before .bring .ensures) _ _ (c .before .before .before .less .ensures) (c .plan2 .ensures) in
-    left-all _ _ _ _ _ _ q _ _ _ a k _ (r .0) (r .1)
+    let p = c .before .before .before .before .before .before .before .before .before .before .before .before .before .before .before .before .before .before .before .before .before .before in
+    let q = p .before .before .before .pre .1 in
+    let a = p .sort .ensures in
+    let h = remains _ _ _ _ _ _ q _ _ a in
+    let d = c .before .before .before .before .before .before .before .before .before .before .before .before .before .before .before .before .divide .ensures in
+    let r = both _ _ _ _ _ _ h _ _ _ _ _ _ _ d _ (c .before .before .before .before .before .before .before .before .before .before .before .before .plan .ensures) _ _ (c .before .before .before .before .before .before .before .before .bring .ensures) _ _ (c .before .before .before .before .before .less .ensures) (c .before .before .plan2 .ensures) in
+    left-all _ _ _ _ _ _ q _ _ a _ (r .0) (r .1)
 
 pub +plan-spec : {M : Type 1} → statement M
 +plan-spec = close μ-plan λ t. plan-lts.spec (K-plan t)
     (plan-at t)
     plan.Post
     (plan-sort-requires t)
+    (plan-same-length t)
     (plan-returns t)
     (plan-lowest-requires t)
     (plan-flip-requires t)
     (plan-cast-single t)
-    (plan-mul-single t)
-    (plan-array-read-single t)
-    (plan-cast-single-2 t)
     (plan-single-requires t)
+    (plan-same-length-2 t)
     (plan-returns-2 t)
     (plan-divide-requires t)
     (plan-plan-requires t)
     (plan-bring-requires t)
     (plan-less-requires t)
     (plan-plan-requires-2 t)
+    (plan-same-length-3 t)
     (plan-returns-3 t)

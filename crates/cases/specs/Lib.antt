@@ -1,0 +1,2 @@
+-- The worked cases, proved from the definitions.
+pub mod Cases
