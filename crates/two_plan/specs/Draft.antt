@@ -15,7 +15,7 @@ use Rattle.doors.specs.Doors.{Walk, Way, Doors}
 use Rattle.doors.specs.Paths.{flip-moves, flip-eq}
 use Rattle.doors.specs.Plain.{full-below}
 use Rattle.doors.specs.Request.{Request}
-use Rattle.grid.specs.Grid.{hops, Within}
+use Rattle.two_write.specs.Row.{hops}
 use Rattle.two_fan.specs.Sort.{Ask, Sorts, Keeps, Ends}
 use Rattle.two_fan.specs.Gates.{Gates}
 use Rattle.two_fan.specs.Shut.{block-request}
@@ -73,12 +73,10 @@ module _ {m s0 p0 k : ℕ} {blocks slots : List ℕ} {c : Choice} (a : Asks m s0
   rep-in : (r : ℕ) → bit r (c .reps) ≡ 1 → (r < k) × (bit r (c .gated) ≡ 1)
   rep-in r o = let g = h .end .reps-on r o .0 in (h .sort .gated-on r g .0, g)
 
-  pub rows-within : Within (c .rows)
-  rows-within = record {
-    below = λ x o. ⊎-elim
-        (λ s. omega (arith, h .end .single-on x s .0, few-targets))
-        (λ (r, p, e). omega (arith, rep-in r p .0, few-targets)) (h .end .row-from x o);
-  }
+  pub rows-within : (x : ℕ) → bit x (c .rows) ≡ 1 → x < 32
+  rows-within x o = ⊎-elim
+      (λ s. omega (arith, h .end .single-on x s .0, few-targets))
+      (λ (r, p, e). omega (arith, rep-in r p .0, few-targets)) (h .end .row-from x o)
 
 module _ {m s0 p0 k : ℕ} {blocks slots : List ℕ} {c : Choice} {g : List ℕ} (p : Planned m s0 p0 k blocks slots c g) where
   pub way-of : (x : ℕ) → bit x (c .rows) ≡ 1 → Way (2 ^ m) (2 ^ (2 ^ m) - 1) s0 (c .shut) (at (c .ends) x) (hops g x)
@@ -135,19 +133,24 @@ module _ {m s0 p0 k : ℕ} {blocks slots : List ℕ} {c : Choice} {o : Taken} {g
   single-on = let e = s .planned .chose .end in e .row-single j (e .single-off j lt outer curved)
 
   -- what reading its first block asks
-  pub first-ask : (j < 32) × (length (hops g j) < 34)
-  first-ask = (omega (arith, few-targets (s .planned .asks) (s .planned .chose)), way-short (s .planned) j single-on)
+  pub first-ask : (j < 32) × (length g ≡ 1120) × (length (hops g j) < 34) × (0 < length (hops g j))
+  first-ask =
+      let d = way-of (s .planned) j single-on .door in
+      (omega (arith, few-targets (s .planned .asks) (s .planned .chose)), s .planned .long, way-short (s .planned) j single-on, omega (arith, ap length (d .first)))
+
+  door-first : (v : ℕ) → v ≡ getD (hops g j) 0 0 → v ≡ flip s0 (way-of (s .planned) j single-on .door .dim)
+  door-first v f = f ∙ ap (λ (l : List ℕ). getD l 0 0) (way-of (s .planned) j single-on .door .first)
 
   -- the first block and s0 differ in the door
-  pub door-differs : (v : ℕ) → ((x : ℕ) (l : List ℕ) → hops g j ≡ x ∷ l → v ≡ x) → bitXor s0 v ≢ 0
+  pub door-differs : (v : ℕ) → v ≡ getD (hops g j) 0 0 → bitXor s0 v ≢ 0
   door-differs v f z =
       let d = way-of (s .planned) j single-on .door in
-      flip-moves s0 (d .dim) (sym (f (flip s0 (d .dim)) (d .rest) (d .first)) ∙ sym (xor-zero-eq s0 v z))
+      flip-moves s0 (d .dim) (sym (door-first v f) ∙ sym (xor-zero-eq s0 v z))
 
-  pub leaves-door : (v e : ℕ) → ((x : ℕ) (l : List ℕ) → hops g j ≡ x ∷ l → v ≡ x) → Lowest 64 (bitXor s0 v) e → (l : List ℕ) × (hops g j ≡ flip s0 e ∷ l)
+  pub leaves-door : (v e : ℕ) → v ≡ getD (hops g j) 0 0 → Lowest 64 (bitXor s0 v) e → (l : List ℕ) × (hops g j ≡ flip s0 e ∷ l)
   leaves-door v e f low =
       let d = way-of (s .planned) j single-on .door in
-      let same : e ≡ d .dim = door-of 64 s0 v (d .dim) e (f (flip s0 (d .dim)) (d .rest) (d .first)) low in
+      let same : e ≡ d .dim = door-of 64 s0 v (d .dim) e (door-first v f) low in
       (d .rest, d .first ∙ ap (λ (y : ℕ). flip s0 y ∷ d .rest) (sym same))
 
   -- whatever slot its block path leaves by is one of the block

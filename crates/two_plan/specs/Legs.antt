@@ -15,7 +15,7 @@ use Rattle.bits.specs.Laws.{bit-cases, clash, flip-flip, flip-lt}
 use Rattle.paths.specs.Lists.{in-at}
 use Rattle.doors.specs.Doors.{In, Walk, Way}
 use Rattle.doors.specs.Plain.{full-below}
-use Rattle.grid.specs.Grid.{hops}
+use Rattle.two_write.specs.Row.{hops}
 use Rattle.two_fan.specs.Relays.{Relay}
 use Rattle.two_fan.specs.Through.{Crosses}
 use Rattle.two_fan.specs.Assemble.{most}

@@ -7,7 +7,7 @@ use native.Mathlib.Omega.{arith}
 use lib.ListN.{length, getD, take, set, length-set, length-take, length-append}
 use lib.Seq.{sets, length-sets}
 use Rattle.bits.specs.Bit.{flip}
-use Rattle.grid.specs.Grid.{hops}
+use Rattle.two_write.specs.Row.{hops}
 use Rattle.two_fan.specs.Relays.{Relay, inside, length-inside}
 use Rattle.two_fan.specs.Through.{Crosses, crosses-short}
 use Rattle.two_fan.specs.Numbers.{numbers, numbers-append, length-numbers}

@@ -11,7 +11,7 @@ use Rattle.bits.specs.Bit.{bit, flip}
 use Rattle.bits.specs.Laws.{flip-flip}
 use Rattle.doors.specs.Doors.{In, Way}
 use Rattle.doors.specs.Paths.{flip-eq}
-use Rattle.grid.specs.Grid.{hops}
+use Rattle.two_write.specs.Row.{hops}
 use Rattle.two_fan.specs.Relays.{Relay, in-append}
 use Rattle.two_fan.specs.Through.{Crosses}
 use Rattle.two_fan.specs.Assemble.{most}

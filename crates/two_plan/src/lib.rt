@@ -2,7 +2,7 @@
 ghost use mathlib.Core.Path.{_≡_};
 ghost use mathlib.Core.List.{List};
 ghost use Prim.Native.Nat.{ℕ, _+_, _*_, _^_, _<_, _≤_};
-ghost use Rattle.grid.specs.Grid.{hops};
+ghost use Rattle.two_write.specs.Row.{hops};
 ghost use Rattle.two_plan.specs.Draft.{State, Inside, Somewhere, Leaves};
 ghost use lib.ListN.{length, take};
 ghost use Rattle.two_plan.specs.Legs as legs;
@@ -34,7 +34,7 @@ fn leave_of(
         let gates = c.gates;
         return gates[j as usize];
     }
-    bits::lowest(s0 ^ grid::first(grid, j as usize))
+    bits::lowest(s0 ^ two_write::hop(grid, j as usize, 0))
 }
 
 // A tail: the first `len` of these slots.

@@ -21,7 +21,7 @@ use Rattle.doors.specs.Choose.{cleared}
 use Rattle.doors.specs.Plain.{full-below}
 use Rattle.two.specs.Digits.{bit-below}
 use Rattle.doors.specs.Single.{rank, rank-less}
-use Rattle.grid.specs.Grid.{hops, hops-length}
+use Rattle.two_write.specs.Row.{hops, hops-length}
 use Rattle.two_fan.specs.Relays.{Relay}
 use Rattle.two_fan.specs.Through.{Crosses}
 use Rattle.two_fan.specs.Crowd.{Cut}
@@ -76,20 +76,28 @@ pub record Crowding (reps front : ℕ) (g : List ℕ) (todo : ℕ) : Type 0 wher
 pub crowding-none : (reps front : ℕ) (g : List ℕ) → Crowding reps front g reps
 crowding-none reps front g = record { ahead = λ r o. o; none = λ r l o z. absurd (clash z o) }
 
+-- v is the first relay of the row
 abbrev pub FirstIs : (g : List ℕ) (row v : ℕ) → Type 0
-FirstIs g row v = (x : ℕ) (l : List ℕ) → hops g row ≡ x ∷ l → v ≡ x
+FirstIs g row v = v ≡ getD (hops g row) 0 0
+
+first-in : (g : List ℕ) (row v : ℕ) → FirstIs g row v → (x : ℕ) (l : List ℕ) → hops g row ≡ x ∷ l → v ≡ x
+first-in g row v f x l e = f ∙ ap (λ (y : List ℕ). getD y 0 0) e
+
+-- the row of a crowd can be read
+pub crowd-read : {reps : ℕ} {g : List ℕ} (r : ℕ) → Crowds reps g → bit r reps ≡ 1 → (8 + r < 32) × (length g ≡ 1120) × (length (hops g (8 + r)) < 34) × (0 < length (hops g (8 + r)))
+crowd-read r a o = let x = a .some r o in (omega (arith, a .few r o), a .long, a .short r o, omega (arith, ap length (x .2)))
 
 pub crowding-more : {reps front : ℕ} {g : List ℕ} {todo : ℕ} (r v next : ℕ) → Crowding reps front g todo → bit r todo ≡ 1 → FirstIs g (8 + r) v → v ≢ front → next ≡ flip todo r
     → Crowding reps front g next
 crowding-more {reps} {front} {g} {todo} r v next k o f ne e =
     subst (λ (y : ℕ). Crowding reps front g y) (sym e) (record {
       ahead = λ q p. k .ahead q (cleared todo r o q p .0);
-      none = λ q l p z h. ⊎-elim (λ s. ne (f front l (ap (λ (y : ℕ). hops g (8 + y)) (sym s) ∙ h))) (λ n. k .none q l p (sym (flip-other todo r q n) ∙ z) h) (same-or q r);
+      none = λ q l p z h. ⊎-elim (λ s. ne (first-in g (8 + r) v f front l (ap (λ (y : ℕ). hops g (8 + y)) (sym s) ∙ h))) (λ n. k .none q l p (sym (flip-other todo r q n) ∙ z) h) (same-or q r);
     })
 
 pub crowd-found : {reps front : ℕ} {g : List ℕ} (r v : ℕ) → Crowds reps g → bit r reps ≡ 1 → FirstIs g (8 + r) v → v ≡ front → CrowdBy reps front g r
 crowd-found {reps} {front} {g} r v a o f e = record {
-  found = λ ne. let x = a .some r o in (o, (x .1, x .2 ∙ ap (λ (y : ℕ). y ∷ x .1) (sym (f (x .0) (x .1) (x .2)) ∙ e)));
+  found = λ ne. let x = a .some r o in (o, (x .1, x .2 ∙ ap (λ (y : ℕ). y ∷ x .1) (sym (first-in g (8 + r) v f (x .0) (x .1) (x .2)) ∙ e)));
   none = λ z. absurd (omega (arith, a .few r o));
 }
 

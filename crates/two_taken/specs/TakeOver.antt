@@ -7,7 +7,7 @@ use native.Mathlib.Omega.{arith}
 use lib.ListN.{length, take}
 use Rattle.bits.specs.Bit.{bit, flip}
 use Rattle.doors.specs.Doors.{Walk}
-use Rattle.grid.specs.Grid.{hops}
+use Rattle.two_write.specs.Row.{hops}
 use Rattle.two_taken.specs.Over.{at, Crowds, CrowdBy, LastAsk, Enters}
 use Rattle.two_taken.specs.Tail.{TailAsk, Tailed}
 

@@ -34,7 +34,7 @@ fn crowd_by(reps: u64, front: u64, grid: &[u64; 1120]) -> u32
     let mut todo = reps;
     while todo != 0 {
         let r = bits::lowest(todo);
-        if grid::first(grid, 8 + r as usize) == front {
+        if two_write::hop(grid, 8 + r as usize, 0) == front {
             return r;
         }
         todo = bits::flip(todo, r);

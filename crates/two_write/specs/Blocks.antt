@@ -1,6 +1,6 @@
 -- The blocks of a block path, each entered by a door and walked through to the next (`Crossed`): what the loop that writes them keeps.
 -- A block path is a row of a grid. Assumes nothing.
-use Prim.Native.Nat.{ℕ, zero, suc, _+_, _-_, _*_, _^_, _≤_, _<_, min}
+use Prim.Native.Nat.{ℕ, zero, suc, _+_, _-_, _*_, _^_, _≤_, _<_}
 use mathlib.Core.Path.{_≡_, refl, sym, ap, _∙_, subst}
 use mathlib.Core.Logic.{_≢_, inl, inr}
 use mathlib.Core.List.{List, [], _∷_, _++_}
@@ -17,13 +17,12 @@ use Rattle.paths.specs.Lists.{in-at}
 use Rattle.doors.specs.Doors.{In, Walk}
 use Rattle.doors.specs.Paths.{flip-moves}
 use Rattle.doors.specs.Plain.{full-below}
-use Rattle.doors.specs.Rows.{back, back-at}
-use Rattle.grid.specs.Grid.{hops, hops-length}
 use Rattle.two_fan.specs.Relays.{Relay, inside, length-inside}
 use Rattle.two_fan.specs.Through.{Stroll, Crosses, crosses-short}
 use Rattle.two_fan.specs.Numbers.{numbers, numbers-append, length-numbers}
 use Rattle.two_fan.specs.Loops.{crosses-none, crosses-more, walk-hop, door-of}
 use Rattle.two_write.specs.Walked.{relays, relays-numbers, Walked, sets-append}
+use Rattle.two_write.specs.Row.{hops}
 
 -- ---- numbers of relays fit
 
@@ -45,13 +44,6 @@ walk-below n free u t [] h lt w x g = absurd g
 walk-below n free u t (v ∷ l) h lt w x (inl e) = subst (λ (y : ℕ). y < 2 ^ n) (sym (e ∙ w .2)) (flip-lt n u (w .0) lt (h (w .0) (w .1)))
 walk-below n free u t (v ∷ l) h lt w x (inr g) =
     walk-below n free v t l h (subst (λ (y : ℕ). y < 2 ^ n) (sym (w .2)) (flip-lt n u (w .0) lt (h (w .0) (w .1)))) (w .3) x g
-
-pub hop-is : (g : List ℕ) (j i : ℕ) → length (hops g j) < 34 → i < length (hops g j) → getD g (j * 35 + (getD g (j * 35) 0 - i)) 0 ≡ getD (hops g j) i 0
-unfolding hops
-hop-is g j i few h =
-    let c : ℕ = getD g (j * 35) 0 in
-    let len = hops-length g j in
-    sym (back-at g (j * 35 + 1) (min 34 c) 0 i (omega arith) ∙ ap (λ (y : ℕ). getD g y 0) (omega arith))
 
 -- ---- one block
 

@@ -2,7 +2,7 @@
 ghost use mathlib.Core.Path.{_≡_};
 ghost use Prim.Native.Nat.{ℕ, suc, _+_, _*_, _^_, _<_, _≤_};
 ghost use lib.ListN.{length, getD, take};
-ghost use Rattle.grid.specs.Grid.{hops};
+ghost use Rattle.two_write.specs.Row.{hops};
 ghost use Rattle.two_write.specs.Walked.{Room, Walked, Next};
 ghost use Rattle.two_write.specs.Blocks.{Entered, Ways, Crossed, Exit};
 ghost use Rattle.two_write.specs.Slots.{Below, Slotted};
@@ -53,7 +53,7 @@ pub fn hop(grid: &[u64; 1120], row: usize, i: usize) -> u64
     requires { ⌜ (row < 32) × (length (now grid) ≡ 1120) × (length (hops (now grid) row) < 34) × (i < length (hops (now grid) row)) ⌝ }
     ensures { λ r. ⌜ r ≡ getD (hops (now (grid .entry)) row) i 0 ⌝ }
 {
-    grid[row * 35 + (grid[row * 35] as usize - i)]
+    grid[row * 35 + (35 - grid[row * 35] as usize) + i]
 }
 
 // The slot by which block i of a row is left: the door to the next, or `last` in the last of n.

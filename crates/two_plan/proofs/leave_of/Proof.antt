@@ -33,20 +33,20 @@ array-read-result-2 c = omega (arith, inside-small (c .before .before .before .b
 returns-3 : tie.Need-returns-3
 returns-3 c = leaves-straight (c .before .before .before .before .before .if1 .left) (bit-off _ _ (sym (c .before .before .before .before .bit .ensures) ∙ c .before .before .before .if2 .left)) (bit-on _ _ (sym (c .before .before .bit2 .ensures) ∙ c .before .if3 .taken)) refl
 
-first-requires : tie.Need-first-requires
-first-requires c κs =
+hop-requires : tie.Need-hop-requires
+hop-requires c κs =
     let i = c .before .before .before .before .before .before .pre in
     first-ask (i .state) _ (i .lt) (bit-off _ _ (sym (c .before .before .before .bit .ensures) ∙ c .before .before .if2 .left)) (bit-off _ _ (sym (c .before .bit2 .ensures) ∙ c .if3 .left))
 
 lowest-requires : tie.Need-lowest-requires
 lowest-requires c κs =
     let i = c .before .before .before .before .before .before .before .pre in
-    door-differs (i .state) _ (i .lt) (bit-off _ _ (sym (c .before .before .before .before .bit .ensures) ∙ c .before .before .before .if2 .left)) (bit-off _ _ (sym (c .before .before .bit2 .ensures) ∙ c .before .if3 .left)) _ (c .first .ensures)
+    door-differs (i .state) _ (i .lt) (bit-off _ _ (sym (c .before .before .before .before .bit .ensures) ∙ c .before .before .before .if2 .left)) (bit-off _ _ (sym (c .before .before .bit2 .ensures) ∙ c .before .if3 .left)) _ (c .hop .ensures)
 
 returns-4 : tie.Need-returns-4
 returns-4 c =
     let i = c .before .before .before .before .before .before .before .before .pre in
-    let q = leaves-door (i .state) _ (i .lt) (bit-off _ _ (sym (c .before .before .before .before .before .bit .ensures) ∙ c .before .before .before .before .if2 .left)) (bit-off _ _ (sym (c .before .before .before .bit2 .ensures) ∙ c .before .before .if3 .left)) _ _ (c .before .first .ensures) (c .lowest .ensures) in
+    let q = leaves-door (i .state) _ (i .lt) (bit-off _ _ (sym (c .before .before .before .before .before .bit .ensures) ∙ c .before .before .before .before .if2 .left)) (bit-off _ _ (sym (c .before .before .before .bit2 .ensures) ∙ c .before .before .if3 .left)) _ _ (c .before .hop .ensures) (c .lowest .ensures) in
     leaves-single (c .before .before .before .before .before .before .if1 .left) (bit-off _ _ (sym (c .before .before .before .before .before .bit .ensures) ∙ c .before .before .before .before .if2 .left)) (bit-off _ _ (sym (c .before .before .before .bit2 .ensures) ∙ c .before .before .if3 .left)) (q .0) (q .1)
 
 pub leave-of-spec : {M : Type 1} → statement M
@@ -62,6 +62,6 @@ leave-of-spec =
     mul-result-2
     array-read-result-2
     returns-3
-    first-requires
+    hop-requires
     lowest-requires
     returns-4)

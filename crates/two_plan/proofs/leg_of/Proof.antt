@@ -56,7 +56,8 @@ returns-3 c = λ m s0 p0 k leave blocks lt s l. leg-straight s _ lt leave _ _ (b
 row-len-requires-2 : tie.Need-row-len-requires-2
 row-len-requires-2 c κs =
     let i = c .before .before .before .before .before .before .before .before .before .pre .is in
-    first-ask (i .state) _ (i .lt) (bit-off _ _ (sym (c .before .before .before .before .before .before .bit .ensures) ∙ c .before .before .before .before .before .if2 .left)) (bit-off _ _ (sym (c .before .bit2 .ensures) ∙ c .if3 .left))
+    let q = first-ask (i .state) _ (i .lt) (bit-off _ _ (sym (c .before .before .before .before .before .before .bit .ensures) ∙ c .before .before .before .before .before .if2 .left)) (bit-off _ _ (sym (c .before .bit2 .ensures) ∙ c .if3 .left)) in
+    (q .0, q .2)
 
 bit-requires-3 : tie.Need-bit-requires-3
 bit-requires-3 c κs = omega (arith, inside-small (c .before .before .before .before .before .before .before .before .before .before .pre .is))

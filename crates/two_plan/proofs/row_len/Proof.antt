@@ -1,6 +1,6 @@
 -- `two_plan::row_len` meets its contract. Assumes nothing.
 use native.Mathlib.Omega.{arith}
-use Rattle.grid.specs.Grid.{hops-length}
+use Rattle.two_write.specs.Row.{hops-length}
 use borrow.Author.Needs.{needs}
 use Rattle.two_plan.proofs.row_len.Statement.{statement}
 use Rattle.two_plan.proofs.row_len.Tie as tie

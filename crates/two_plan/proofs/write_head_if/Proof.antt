@@ -4,7 +4,7 @@ use mathlib.Core.Path.{ap}
 use mathlib.Core.List.{List}
 use native.Mathlib.Omega.{arith}
 use lib.ListN.{length}
-use Rattle.grid.specs.Grid.{hops}
+use Rattle.two_write.specs.Row.{hops}
 use Rattle.two_plan.specs.Path.{head-on, slotted-on, slotted-off}
 use Rattle.two_plan.proofs.write_head_if.Statement.{statement}
 use Rattle.two_plan.proofs.write_head_if.Tie as tie

@@ -3,8 +3,7 @@ use mathlib.Core.Path.{subst}
 use Prim.Native.Nat.{ℕ}
 use native.Mathlib.Omega.{arith}
 use lib.Count.{ones}
-use Rattle.bits.specs.Laws.{ones-clear}
-use Rattle.two_taken.specs.Over.{Crowding, crowding-none, crowding-more, crowd-found, crowd-none, fewer}
+use Rattle.two_taken.specs.Over.{Crowding, crowding-none, crowding-more, crowd-read, crowd-found, crowd-none, fewer}
 use borrow.Author.Needs.{needs}
 use Rattle.two_taken.proofs.crowd_by.Statement.{statement}
 use Rattle.two_taken.proofs.crowd_by.Tie as tie
@@ -21,22 +20,19 @@ loop-holds c = crowding-none _ _ _
 lowest-requires : tie.Need-lowest-requires Inv-loop μ-loop
 lowest-requires c κs = search needs
 
-cast-first : tie.Need-cast-first Inv-loop μ-loop
-cast-first c = search needs
+cast-hop : tie.Need-cast-hop Inv-loop μ-loop
+cast-hop c = search needs
 
-add-first : tie.Need-add-first Inv-loop μ-loop
-add-first c = search needs
+add-hop : tie.Need-add-hop Inv-loop μ-loop
+add-hop c = search needs
 
-first-requires : tie.Need-first-requires Inv-loop μ-loop
-first-requires c κs =
-    let s = c .before .before .before in
-    let o = c .before .before .loop .inv .ahead _ (c .lowest .ensures .set) in
-    (omega (arith, s .pre .few _ o), s .pre .short _ o)
+hop-requires : tie.Need-hop-requires Inv-loop μ-loop
+hop-requires c κs = crowd-read _ (c .before .before .before .pre) (c .before .before .loop .inv .ahead _ (c .lowest .ensures .set))
 
 returns : tie.Need-returns Inv-loop μ-loop
 returns c =
     let o = c .before .before .before .before .loop .inv .ahead _ (c .before .before .lowest .ensures .set) in
-    crowd-found _ _ (c .before .before .before .before .before .pre) o (c .before .first .ensures) (c .if1 .taken)
+    crowd-found _ _ (c .before .before .before .before .before .pre) o (c .before .hop .ensures) (c .if1 .taken)
 
 flip-requires : tie.Need-flip-requires Inv-loop μ-loop
 flip-requires c κs = search needs
@@ -45,7 +41,7 @@ loop-less : tie.Need-loop-less Inv-loop μ-loop
 loop-less c = fewer _ _ _ (c .before .before .before .lowest .ensures .set) (c .flip .ensures)
 
 loop-again : tie.Need-loop-again Inv-loop μ-loop
-loop-again c = crowding-more _ _ _ (c .before .before .before .before .before .loop .inv) (c .before .before .before .lowest .ensures .set) (c .before .before .first .ensures) (c .before .if1 .left) (c .flip .ensures)
+loop-again c = crowding-more _ _ _ (c .before .before .before .before .before .loop .inv) (c .before .before .before .lowest .ensures .set) (c .before .before .hop .ensures) (c .before .if1 .left) (c .flip .ensures)
 
 returns-2 : tie.Need-returns-2 Inv-loop μ-loop
 returns-2 c =
@@ -60,9 +56,9 @@ crowd-by-spec =
     μ-loop
     loop-holds
     lowest-requires
-    cast-first
-    add-first
-    first-requires
+    cast-hop
+    add-hop
+    hop-requires
     returns
     flip-requires
     loop-less

@@ -1,7 +1,6 @@
 -- `two_write::hop` meets its contract. Assumes nothing.
 use native.Mathlib.Omega.{arith}
-use Rattle.grid.specs.Grid.{hops-length}
-use Rattle.two_write.specs.Blocks.{hop-is}
+use Rattle.two_write.specs.Row.{hops-length, hop-is}
 use borrow.Author.Needs.{needs}
 use Rattle.two_write.proofs.hop.Statement.{statement}
 use Rattle.two_write.proofs.hop.Tie as tie
@@ -24,6 +23,9 @@ sub-result c = omega (arith, hops-length (c .before .args .grid .now) (c .before
 add-result : tie.Need-add-result
 add-result c = omega (arith, hops-length (c .before .args .grid .now) (c .before .args .row))
 
+add-result-2 : tie.Need-add-result-2
+add-result-2 c = omega (arith, hops-length (c .before .args .grid .now) (c .before .args .row))
+
 mul-result-4 : tie.Need-mul-result-4
 mul-result-4 c = omega (arith, hops-length (c .before .args .grid .now) (c .before .args .row))
 
@@ -45,6 +47,7 @@ hop-spec =
     element-copy-out-result
     sub-result
     add-result
+    add-result-2
     mul-result-4
     element-copy-out-result-2
     returns)

@@ -2,7 +2,7 @@
 use Prim.Native.Nat.{_-_, _*_}
 use native.Mathlib.Omega.{arith}
 use lib.ListN.{getD}
-use Rattle.grid.specs.Grid.{hops, hops-length}
+use Rattle.two_write.specs.Row.{hops, hops-length}
 use Rattle.two_write.specs.Blocks.{base-fits}
 use Rattle.two_write.specs.Slots.{Slotting, slotting-none, slotting-more, slotting-done, slotted-all}
 use borrow.Author.Needs.{needs}
