@@ -3,3 +3,4 @@ pub mod Draft
 pub mod Legs
 pub mod TakenLeg
 pub mod Path
+pub mod Heads
