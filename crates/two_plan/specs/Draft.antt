@@ -53,6 +53,18 @@ pub record Inside (s0 p0 : ℕ) (slots : List ℕ) (c : Choice) (o : Taken) (g :
   pub lt : j < k
   pub state : State m s0 p0 k blocks slots c o g
 
+-- the targets are those of it
+pub record AllInside (s0 p0 k : ℕ) (slots : List ℕ) (c : Choice) (o : Taken) (g : List ℕ) : Type 0 where
+  pub m : ℕ
+  pub blocks : List ℕ
+  pub state : State m s0 p0 k blocks slots c o g
+
+pub all-few : {s0 p0 k : ℕ} {slots : List ℕ} {c : Choice} {o : Taken} {g : List ℕ} → AllInside s0 p0 k slots c o g → k ≤ 6
+all-few a = omega (arith, a .state .planned .asks .ask .few, a .state .planned .asks .high)
+
+pub one-inside : {s0 p0 k : ℕ} {slots : List ℕ} {c : Choice} {o : Taken} {g : List ℕ} {j : ℕ} → AllInside s0 p0 k slots c o g → j < k → Inside s0 p0 slots c o g j
+one-inside {s0} {p0} {k} {slots} {c} {o} {g} {j} a h = record { m = a .m; k = k; blocks = a .blocks; lt = h; state = a .state }
+
 pub record Somewhere (slots : List ℕ) (c : Choice) (o : Taken) (g : List ℕ) (j : ℕ) : Type 0 where
   pub s0 : ℕ
   pub p0 : ℕ

@@ -4,3 +4,4 @@ pub mod Legs
 pub mod TakenLeg
 pub mod Path
 pub mod Heads
+pub mod Filled

@@ -1,13 +1,17 @@
 // The two-level planner for orders 2 to 5.
 ghost use mathlib.Core.Path.{_≡_};
 ghost use mathlib.Core.List.{List};
-ghost use Prim.Native.Nat.{ℕ, _+_, _*_, _^_, _<_, _≤_};
+ghost use Prim.Native.Nat.{ℕ, _+_, _-_, _*_, _/_, _%_, _^_, _<_, _≤_};
+ghost use mathlib.Core.Logic.{_≢_};
 ghost use Rattle.two_write.specs.Row.{hops};
-ghost use Rattle.two_plan.specs.Draft.{State, Inside, Somewhere, Leaves};
+ghost use Rattle.two_plan.specs.Draft.{State, Inside, AllInside, Somewhere, Leaves};
 ghost use lib.ListN.{length, take};
 ghost use Rattle.two_plan.specs.Legs as legs;
 ghost use Rattle.two_plan.specs.Path.{headIf, HeadAsk, PathAsk, Wrote};
 ghost use Rattle.two_write.specs.Slots.{Slotted};
+ghost use Rattle.two_sort.specs.Masks.{at};
+ghost use Rattle.doors.specs.Choose.{Chosen};
+ghost use Rattle.two_plan.specs.Filled.{Filled};
 use two_sort::Choice;
 use two_taken::Taken;
 
@@ -180,4 +184,72 @@ fn write_path(
     let q = two_write::write_blocks(m, s0, grid, row, n, leave as u64, last as u64, p, out);
     let r = two_write::write_slots(m, b, tail, len, q, out);
     (r - at - 1) as u64
+}
+
+// ---- the targets, taken apart
+
+// The block of each target, where a block has `size` slots.
+fn blocks_of(size: u64, targets: &[u64]) -> [u64; 8]
+    requires { ⌜ (0 < size) × (length (now targets) ≤ 8) ⌝ }
+    ensures { λ r. ⌜ Filled 8 (length (now (targets .entry))) (λ j v. v ≡ at (now (targets .entry)) j / size) r ⌝ }
+{
+    let mut r = [0u64; 8];
+    let mut i: usize = 0;
+    while i < targets.len() {
+        r[i] = targets[i] / size;
+        i += 1;
+    }
+    r
+}
+
+// The slot of each target.
+fn slots_of(size: u64, targets: &[u64]) -> [u32; 8]
+    requires { ⌜ (0 < size) × (size ≤ 32) × (length (now targets) ≤ 8) ⌝ }
+    ensures { λ r. ⌜ Filled 8 (length (now (targets .entry))) (λ j v. v ≡ at (now (targets .entry)) j % size) r ⌝ }
+{
+    let mut r = [0u32; 8];
+    let mut i: usize = 0;
+    while i < targets.len() {
+        r[i] = (targets[i] % size) as u32;
+        i += 1;
+    }
+    r
+}
+
+// ---- all paths
+
+// The slots by which the paths leave the source's block.
+fn leaves_of(
+    s0: u64,
+    p0: u32,
+    slots: [u32; 8],
+    c: Choice,
+    o: Taken,
+    k: u32,
+    grid: &[u64; 1120],
+) -> [u64; 32]
+    requires { ⌜ AllInside s0 p0 k slots c o (now grid) ⌝ }
+    ensures { λ r. ⌜ Filled 32 k (Leaves s0 p0 slots c o (now (grid .entry))) r ⌝ }
+{
+    let mut r = [0u64; 32];
+    let mut j: u32 = 0;
+    while j < k {
+        r[j as usize] = leave_of(s0, p0, slots, c, o, grid, j) as u64;
+        j += 1;
+    }
+    r
+}
+
+// The targets whose paths leave by another slot than the source's.
+fn walkers_of(leaves: [u64; 32], p0: u32, k: u32) -> u64
+    requires { ⌜ k ≤ 8 ⌝ }
+    ensures { λ r. ⌜ Chosen (λ j. at leaves j ≢ p0) (λ j. at leaves j ≡ p0) (2 ^ k - 1) r ⌝ }
+{
+    let mut found: u64 = 0;
+    let mut j: u32 = 0;
+    while j < k {
+        found = two_sort::add_if(found, j, leaves[j as usize] != p0 as u64);
+        j += 1;
+    }
+    found
 }

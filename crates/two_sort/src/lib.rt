@@ -28,7 +28,7 @@ pub struct Choice {
 }
 
 // The set with j, if `yes`.
-fn add_if(set: u64, j: u32, yes: bool) -> u64
+pub fn add_if(set: u64, j: u32, yes: bool) -> u64
     requires { ⌜ j < 64 ⌝ }
     ensures { λ r. ⌜ r ≡ added set j yes ⌝ }
 {
