@@ -72,6 +72,7 @@ pub record Leg (m s0 p0 k : ℕ) (blocks slots : List ℕ) (c : Choice) (o : tak
   pub last-in : last < 2 ^ m
   pub stays : n ≡ 0 → leave ≡ last
   pub few : len ≤ 8
+  pub whole : len ≤ length tail
   pub below : Below m len tail
   pub role : (b : ℕ) (body : List Relay) → Crosses m s0 leave b last (take n (hops g row)) body
       → Role m s0 p0 k (at blocks) (at slots) (c .gated) (c .rows) (o .who) (at (c .gates)) (at (c .ends)) (hops g) j leave row (take n (hops g row)) (take len tail) body
@@ -116,6 +117,7 @@ module _ {m s0 p0 k : ℕ} {blocks slots : List ℕ} {c : Choice} {o : taken.Tak
     last-in = slot-in;
     stays = λ z. e;
     few = omega arith;
+    whole = omega arith;
     below = λ i h. absurd (omega arith);
     role = λ d body k. inl (record {
       here = s .planned .chose .sort .inner-on j b .1;
@@ -141,6 +143,7 @@ module _ {m s0 p0 k : ℕ} {blocks slots : List ℕ} {c : Choice} {o : taken.Tak
         last-in = s .planned .chose .below j;
         stays = λ z. e;
         few = omega (arith, gate-few t);
+        whole = omega (arith, gate-few t, t .long);
         below = gate-below m (s .planned .chose .below j) slot-in t;
         role = λ d body k. inr (inr (
           x .0,
@@ -200,6 +203,7 @@ module _ {m s0 p0 k : ℕ} {blocks slots : List ℕ} {c : Choice} {o : taken.Tak
           last-in = slot-in;
           stays = λ z. absurd (some-hops z);
           few = omega arith;
+      whole = omega arith;
           below = λ i h. absurd (omega arith);
           role = λ d body k. inr (inl (record {
             ungated = b;
@@ -227,6 +231,7 @@ module _ {m s0 p0 k : ℕ} {blocks slots : List ℕ} {c : Choice} {o : taken.Tak
           last-in = s .planned .chose .below j;
           stays = λ z. absurd (some-hops z);
           few = omega (arith, gate-few t);
+        whole = omega (arith, gate-few t, t .long);
           below = gate-below m (s .planned .chose .below j) slot-in t;
           role = λ d body k. inr (inr (
             b,

@@ -5,3 +5,4 @@ pub mod TakenLeg
 pub mod Path
 pub mod Heads
 pub mod Filled
+pub mod Paths

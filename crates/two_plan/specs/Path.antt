@@ -41,7 +41,7 @@ pub record PathAsk (m s0 b : ℕ) (heads : List ℕ) (j : ℕ) (walks : Bool) (g
   pub last-in : last < 2 ^ m
   pub stays : n ≡ 0 → leave ≡ last
   pub few : len ≤ 8
-  pub whole : length tail ≡ 8
+  pub whole : len ≤ length tail
   pub below : Below m len tail
   pub room : at + suc (length (headIf walks (hops heads j)) + (n * suc m + len)) ≤ size
 

@@ -121,6 +121,7 @@ module _ {m s0 p0 k : ℕ} {blocks slots : List ℕ} {c : Choice} {o : taken.Tak
     last-in = t .enters .within;
     stays = λ z. enters-home n e z;
     few = omega (arith, t .few);
+    whole = omega (arith, t .few, t .long);
     below = tail-below;
     role = λ d body k.
         let k₁ : Crosses m s0 p0 d (o .enter) route body = subst (λ (l : List ℕ). Crosses m s0 p0 d (o .enter) l body) (but-last n e) k in

@@ -12,6 +12,8 @@ ghost use Rattle.two_write.specs.Slots.{Slotted};
 ghost use Rattle.two_sort.specs.Masks.{at};
 ghost use Rattle.doors.specs.Choose.{Chosen};
 ghost use Rattle.two_plan.specs.Filled.{Filled};
+ghost use Rattle.two_fan.specs.Assemble.{most};
+ghost use Rattle.two_plan.specs.Paths.{Held, Inner, Put};
 use two_sort::Choice;
 use two_taken::Taken;
 
@@ -252,4 +254,31 @@ fn walkers_of(leaves: [u64; 32], p0: u32, k: u32) -> u64
         j += 1;
     }
     found
+}
+
+// Writes the path of j from the place `at` on, and returns its hops.
+fn put_path(
+    m: u32,
+    s0: u64,
+    p0: u32,
+    source: u64,
+    blocks: [u64; 8],
+    slots: [u32; 8],
+    c: Choice,
+    o: Taken,
+    leaves: [u64; 32],
+    heads: &[u64; 1120],
+    grid: &[u64; 1120],
+    j: u32,
+    at: usize,
+    out: &mut [u64],
+) -> u64
+    requires { ⌜ (at + (most m + 1) ≤ length (now out)) × Inner m s0 p0 blocks slots c o (now grid) leaves (now heads) j ⌝ }
+    ensures { λ r. ⌜ ((k : ℕ) → j < k → Held m s0 p0 k blocks slots c o (now (grid .entry)) leaves (now (heads .entry)) → Put m s0 p0 k blocks slots c o (now (grid .entry)) leaves (now (heads .entry)) source j at (now (out .entry)) (now (out .exit)) r) ⌝ }
+{
+    let i = j as usize;
+    let leg = leg_of(slots, c, o, grid, j);
+    let leave = leaves[i];
+    let walks = leave != p0 as u64;
+    write_path(m, s0, blocks[i], source, heads, i, walks, leave as u32, leg, grid, at, out)
 }
