@@ -6,7 +6,7 @@ use mathlib.Core.Bool.{Bool, true, false, not}
 use mathlib.Core.List.{List, [], _∷_, _++_}
 use native.Mathlib.Nat.{mul-le-mul-right}
 use native.Mathlib.Omega.{arith}
-use lib.ListN.{length, getD, take, length-take, length-append}
+use lib.ListN.{length, getD, set, take, length-take, length-append}
 use lib.Seq.{sets}
 use lib.Dec.{eqb}
 use lib.Count.{ones, ones-ones}
@@ -29,7 +29,7 @@ use Rattle.two_sort.specs.declared.Choice.{Choice}
 use Rattle.two_sort.specs.Masks.{at}
 use Rattle.two_taken.specs.declared.Taken as taken
 use Rattle.two_write.specs.Row.{hops}
-use Rattle.two_write.specs.Rows.{Drawing, drawing-none, row-room}
+use Rattle.two_write.specs.Rows.{Drawing, drawing-none, drawing-more, row-room}
 use Rattle.two_write.specs.Slots.{Below}
 use Rattle.two_rows.specs.Rows.{Gives}
 use Rattle.two_plan.specs.Draft.{State, Leaves, AllInside, Somewhere}
@@ -151,3 +151,34 @@ module _ {m s0 p0 k : ℕ} {blocks slots : List ℕ} {c : Choice} {o : taken.Tak
       where
         route-size : length (take n (hops g row)) ≡ n
         route-size = length-take n (hops g row) ∙ omega (arith, l .some)
+
+-- ---- all paths
+
+-- what the loop over the paths is asked
+pub record Writes (m s0 p0 k w : ℕ) (blocks slots : List ℕ) (c : Choice) (o : taken.Taken) (g leaves heads places counts : List ℕ) : Type 0 where
+  pub held : Held m s0 p0 k blocks slots c o g leaves heads
+  pub wide : w ≡ most m + 1
+  pub room : k * w ≤ length places
+  pub room-counts : k ≤ length counts
+  pub filled : (x : ℕ) → x < k * w → getD places x 0 ≡ fan.filler
+
+module _ {m s0 p0 k w : ℕ} {blocks slots : List ℕ} {c : Choice} {o : taken.Taken} {g leaves heads places₀ counts₀ : List ℕ} (a : Writes m s0 p0 k w blocks slots c o g leaves heads places₀ counts₀) where
+  abbrev Drawn₁ : (source : ℕ) (places counts : List ℕ) (j : ℕ) → Type 0
+  Drawn₁ source places counts j = Drawing w source k (Pathed m s0 p0 k blocks slots c o g leaves heads) places₀ counts₀ places counts j
+
+  pub writes-none : (source : ℕ) → Drawn₁ source places₀ counts₀ 0
+  writes-none source = drawing-none w source k (Pathed m s0 p0 k blocks slots c o g leaves heads) places₀ counts₀ (a .room) (a .room-counts) (a .filled)
+
+  module _ {source j : ℕ} {places counts : List ℕ} (d : Drawn₁ source places counts j) (lt : j < k) where
+    pub writes-room : (j * w + (most m + 1) ≤ length places) × (j < length counts)
+    writes-room = (omega (arith, row-room j k w lt, d .room, a .wide), omega (arith, d .room-counts))
+
+    pub writes-inner : Inner m s0 p0 blocks slots c o g leaves heads j
+    writes-inner = record { k = k; lt = lt; held = a .held }
+
+    pub writes-more : {places₁ : List ℕ} {r : ℕ} → ((k : ℕ) → j < k → Held m s0 p0 k blocks slots c o g leaves heads → Put m s0 p0 k blocks slots c o g leaves heads source j (j * w) places places₁ r)
+        → Drawn₁ source places₁ (set counts j r) (j + 1)
+    writes-more {places₁} {r} f = let p = f k lt (a .held) in drawing-more d lt (p .path) r places₁ (p .pathed) (omega (arith, p .short, a .wide)) (p .wrote) (p .count)
+
+  pub writes-all : {source j : ℕ} {places counts : List ℕ} → j ≡ k → Drawn₁ source places counts j → Drawn₁ source places counts k
+  writes-all {source} {j} {places} {counts} e d = subst (Drawn₁ source places counts) e d

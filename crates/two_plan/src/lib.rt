@@ -9,11 +9,12 @@ ghost use lib.ListN.{length, take};
 ghost use Rattle.two_plan.specs.Legs as legs;
 ghost use Rattle.two_plan.specs.Path.{headIf, HeadAsk, PathAsk, Wrote};
 ghost use Rattle.two_write.specs.Slots.{Slotted};
+ghost use Rattle.two_write.specs.Rows.{Drawing};
 ghost use Rattle.two_sort.specs.Masks.{at};
 ghost use Rattle.doors.specs.Choose.{Chosen};
 ghost use Rattle.two_plan.specs.Filled.{Filled};
 ghost use Rattle.two_fan.specs.Assemble.{most};
-ghost use Rattle.two_plan.specs.Paths.{Held, Inner, Put};
+ghost use Rattle.two_plan.specs.Paths.{Held, Inner, Put, Pathed, Writes};
 use two_sort::Choice;
 use two_taken::Taken;
 
@@ -281,4 +282,34 @@ fn put_path(
     let leave = leaves[i];
     let walks = leave != p0 as u64;
     write_path(m, s0, blocks[i], source, heads, i, walks, leave as u32, leg, grid, at, out)
+}
+
+// Writes the paths of all k targets, w places each, and their hops.
+fn write_paths(
+    m: u32,
+    s0: u64,
+    p0: u32,
+    source: u64,
+    k: u32,
+    w: usize,
+    blocks: [u64; 8],
+    slots: [u32; 8],
+    c: Choice,
+    o: Taken,
+    leaves: [u64; 32],
+    heads: &[u64; 1120],
+    grid: &[u64; 1120],
+    places: &mut [u64],
+    counts: &mut [u64],
+)
+    requires { ⌜ Writes m s0 p0 k w blocks slots c o (now grid) leaves (now heads) (now places) (now counts) ⌝ }
+    ensures { λ r. ⌜ Drawing w source k (Pathed m s0 p0 k blocks slots c o (now (grid .entry)) leaves (now (heads .entry))) (now (places .entry)) (now (counts .entry)) (now (places .exit)) (now (counts .exit)) k ⌝ }
+{
+    let mut j: u32 = 0;
+    while j < k {
+        let i = j as usize;
+        let h = put_path(m, s0, p0, source, blocks, slots, c, o, leaves, heads, grid, j, i * w, places);
+        counts[i] = h;
+        j += 1;
+    }
 }
