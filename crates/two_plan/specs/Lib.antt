@@ -6,3 +6,4 @@ pub mod Path
 pub mod Heads
 pub mod Filled
 pub mod Paths
+pub mod Whole
