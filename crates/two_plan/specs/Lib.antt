@@ -7,3 +7,4 @@ pub mod Heads
 pub mod Filled
 pub mod Paths
 pub mod Whole
+pub mod Draws

@@ -14,6 +14,8 @@ ghost use Rattle.two_sort.specs.Masks.{at};
 ghost use Rattle.doors.specs.Choose.{Chosen};
 ghost use Rattle.two_plan.specs.Filled.{Filled};
 ghost use Rattle.two_fan.specs.Assemble.{most};
+ghost use Rattle.two_plan.specs.Whole.{Painted};
+ghost use Rattle.two_plan.specs.Draws.{Draws};
 ghost use Rattle.two_plan.specs.Paths.{Held, Inner, Put, Pathed, Writes};
 use two_sort::Choice;
 use two_taken::Taken;
@@ -312,4 +314,47 @@ fn write_paths(
         counts[i] = h;
         j += 1;
     }
+}
+
+// The mask of n dimensions.
+fn dimensions(n: u32) -> u64
+    requires { ⌜ n < 64 ⌝ }
+    ensures { λ r. ⌜ r ≡ 2 ^ n - 1 ⌝ }
+{
+    grid::pow(n) - 1
+}
+
+// The mask of a block's bits: one for each slot.
+fn block_bits(m: u32) -> u64
+    requires { ⌜ m ≤ 5 ⌝ }
+    ensures { λ r. ⌜ r ≡ 2 ^ (2 ^ m) - 1 ⌝ }
+{
+    dimensions(1 << m)
+}
+
+// Chooses, plans the block paths and the heads, and writes the paths of k targets in these blocks and slots.
+fn draw(
+    m: u32,
+    s0: u64,
+    p0: u32,
+    source: u64,
+    k: u32,
+    w: usize,
+    blocks: [u64; 8],
+    slots: [u32; 8],
+    places: &mut [u64],
+    counts: &mut [u64],
+)
+    requires { ⌜ Draws m s0 p0 k w blocks slots (now places) (now counts) ⌝ }
+    ensures { λ r. ⌜ Painted m s0 p0 k w source blocks slots (now (places .entry)) (now (counts .entry)) (now (places .exit)) (now (counts .exit)) ⌝ }
+{
+    let c = two_sort::choose(m, s0, p0, k, blocks, slots);
+    let ends = c.ends;
+    let gates = c.gates;
+    let ways = two_rows::plan_rows(block_bits(m), s0, c.shut, c.rows, ends);
+    let o = two_taken::take_over(m, s0, p0, k, blocks, slots, gates, c.gated, c.reps, &ways);
+    let leaves = leaves_of(s0, p0, slots, c, o, k, &ways);
+    let walkers = walkers_of(leaves, p0, k);
+    let heads = two_rows::plan_rows(dimensions(m), p0 as u64, 0, walkers, leaves);
+    write_paths(m, s0, p0, source, k, w, blocks, slots, c, o, leaves, &heads, &ways, places, counts);
 }
