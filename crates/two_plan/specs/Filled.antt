@@ -1,8 +1,9 @@
 -- Arrays filled index by index: each value below n has its property, and the rest is 0 (`Filled`). Assumes nothing.
-use Prim.Native.Nat.{ℕ, zero, suc, _+_, _≤_, _<_}
+use Prim.Native.Nat.{ℕ, zero, suc, _+_, _%_, _≤_, _<_}
 use mathlib.Core.Path.{_≡_, refl, sym, _∙_, subst}
 use mathlib.Core.Bool.{Bool, true, false}
 use mathlib.Core.List.{List, [], _∷_}
+use native.Mathlib.Nat.{mod-lt}
 use native.Mathlib.Omega.{arith}
 use native.Mathlib.Decide.{ℕ-discrete}
 use lib.ListN.{length, getD, set, length-set}
@@ -44,3 +45,7 @@ filled-more {size} {n} {P} {r} v f h p = record {
 
 pub filled-all : {size n k : ℕ} {P : ℕ → ℕ → Type 0} {r : List ℕ} → n ≡ k → Filled size n P r → Filled size k P r
 filled-all {size} {n} {k} {P} {r} e f = subst (λ (y : ℕ). Filled size y P r) e f
+
+-- a remainder by a block's size is small
+pub small-rest : (x size : ℕ) → 0 < size → size ≤ 32 → x % size < 4294967296
+small-rest x size pos h = omega (arith, mod-lt x pos)

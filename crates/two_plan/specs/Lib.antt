@@ -8,3 +8,4 @@ pub mod Filled
 pub mod Paths
 pub mod Whole
 pub mod Draws
+pub mod General

@@ -9,13 +9,15 @@ ghost use lib.ListN.{length, take};
 ghost use Rattle.two_plan.specs.Legs as legs;
 ghost use Rattle.two_plan.specs.Path.{headIf, HeadAsk, PathAsk, Wrote};
 ghost use Rattle.two_write.specs.Slots.{Slotted};
-ghost use Rattle.two_write.specs.Rows.{Drawing};
+ghost use Rattle.two_write.specs.Rows.{Drawing, Drawn};
 ghost use Rattle.two_sort.specs.Masks.{at};
 ghost use Rattle.doors.specs.Choose.{Chosen};
 ghost use Rattle.two_plan.specs.Filled.{Filled};
 ghost use Rattle.two_fan.specs.Assemble.{most};
 ghost use Rattle.two_plan.specs.Whole.{Painted};
 ghost use Rattle.two_plan.specs.Draws.{Draws};
+ghost use Rattle.two_plan.specs.General.{General};
+ghost use Rattle.two.specs.Two.{two};
 ghost use Rattle.two_plan.specs.Paths.{Held, Inner, Put, Pathed, Writes};
 use two_sort::Choice;
 use two_taken::Taken;
@@ -357,4 +359,24 @@ fn draw(
     let walkers = walkers_of(leaves, p0, k);
     let heads = two_rows::plan_rows(dimensions(m), p0 as u64, 0, walkers, leaves);
     write_paths(m, s0, p0, source, k, w, blocks, slots, c, o, leaves, &heads, &ways, places, counts);
+}
+
+// Plans a request of order 2 to 5: fewer targets than links, or one of them outside the source's block.
+fn general(
+    m: u32,
+    source: u64,
+    targets: &[u64],
+    w: usize,
+    places: &mut [u64],
+    counts: &mut [u64],
+)
+    requires { ⌜ General m source w (now targets) (now places) (now counts) ⌝ }
+    ensures { λ r. ⌜ Drawn (two m) source (now (targets .entry)) (now (places .entry)) (now (counts .entry)) (now (places .exit)) (now (counts .exit)) ⌝ }
+{
+    let size = grid::pow(m);
+    let blocks = blocks_of(size, targets);
+    let slots = slots_of(size, targets);
+    let p0 = (source % size) as u32;
+    let k = targets.len() as u32;
+    draw(m, source / size, p0, source, k, w, blocks, slots, places, counts);
 }

@@ -2,17 +2,13 @@
 use Prim.Native.Nat.{ℕ, _-_, _/_, _%_, _≤_, _<_}
 use mathlib.Core.Path.{_≡_, refl, sym, subst, _∙_, ap}
 use mathlib.Core.List.{List}
-use native.Mathlib.Nat.{mod-lt}
 use native.Mathlib.Omega.{arith}
 use lib.ListN.{length, getD}
 use Rattle.two_sort.specs.Masks.{at}
-use Rattle.two_plan.specs.Filled.{Filled, allZero, filled-none, filled-more, filled-all}
+use Rattle.two_plan.specs.Filled.{Filled, allZero, filled-none, filled-more, filled-all, small-rest}
 use borrow.Author.Needs.{needs}
 use Rattle.two_plan.proofs.slots_of.Statement.{statement}
 use Rattle.two_plan.proofs.slots_of.Tie as tie
-
-small-rest : (x size : ℕ) → 0 < size → size ≤ 32 → x % size < 4294967296
-small-rest x size pos h = omega (arith, mod-lt x pos)
 
 abbrev Inv-loop : tie.InvT-loop
 Inv-loop size targets r₀ i₀ r i = (i ≤ length targets) × Filled 8 i (λ j v. v ≡ at targets j % size) r
