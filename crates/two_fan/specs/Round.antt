@@ -14,7 +14,7 @@ use Rattle.doors.specs.Doors.{In, Fresh, Walk, Way, Doors}
 use Rattle.doors.specs.Paths.{same-or, flip-moves, flip-eq, flip-comm, not-cons}
 use Rattle.doors.specs.Plain.{bit-full}
 use Rattle.two_fan.specs.Relays.{Relay, inside}
-use Rattle.two_fan.specs.Through.{stroll, Crosses}
+use Rattle.two_fan.specs.Through.{Stroll, stroll, Crosses}
 use Rattle.two_fan.specs.Assemble.{TwoFan, Leg, assemble}
 use Rattle.two_fan.specs.Plan.{walk-end, way-end}
 use Rattle.two_fan.specs.Gates.{find, flip-two}
@@ -41,9 +41,17 @@ pub record Round (m s0 p0 k left : ℕ) (tb tp : ℕ → ℕ) (head : ℕ → Li
   pub path-other : (j : ℕ) → j < k → j ≢ left → paths j ≡ inside s0 (head j)
   pub path-left : paths left ≡ body ++ inside s0 (tp left ∷ [])
 
-abbrev pub when : {A : Type 0} → Dec A → List ℕ → List ℕ → List ℕ
+abbrev pub when : {A B : Type 0} → Dec A → B → B → B
 when (yes e) a b = a
 when (no ne) a b = b
+
+pub when-yes : {A B : Type 0} (d : Dec A) (a b : B) → A → when d a b ≡ a
+when-yes (yes e) a b h = refl
+when-yes (no ne) a b h = absurd (ne h)
+
+pub when-no : {A B : Type 0} (d : Dec A) (a b : B) → (A → ⊥) → when d a b ≡ b
+when-no (yes e) a b h = absurd (h e)
+when-no (no ne) a b h = refl
 
 round-fresh : (s0 p0 a : ℕ) → a ≢ p0 → Fresh (s0 ∷ round s0 p0 a)
 round-fresh s0 p0 a ne = (
@@ -207,16 +215,19 @@ module _ (m p0 : ℕ) (tp : ℕ → ℕ) (shut : ℕ) (f : ℕ → List ℕ) (fa
       apart i j h g a b ne x (no d) (no e) p q = fan .apart i j (bit-full m i (not-last i h d)) (bit-full m j (not-last j g e)) ne x p q
 
 -- the round trip by walks in its three blocks
+pub round-crosses : (m s0 p0 a : ℕ) (x y z : List ℕ) → Stroll m p0 a x → Stroll m a p0 y → Stroll m p0 a z
+    → Crosses m s0 p0 (flip s0 a) a (round s0 p0 a) (inside (flip s0 p0) (p0 ∷ x) ++ (inside (flip (flip s0 p0) a) (a ∷ y) ++ (inside (flip s0 a) (p0 ∷ z) ++ [])))
+round-crosses m s0 p0 a x y z sx sy sz =
+    let last = inside (flip s0 a) (p0 ∷ z) ++ [] in
+    let mid = inside (flip (flip s0 p0) a) (a ∷ y) ++ last in
+    let back : flip s0 a ≡ flip (flip (flip s0 p0) a) p0 = sym (flip-comm (flip s0 p0) a p0 ∙ ap (λ (u : ℕ). flip u a) (flip-flip s0 p0)) in
+    (a, x, mid, refl, sx, (p0, y, last, refl, sy, (a, z, [], back, sz, (refl, refl, refl), refl), refl), refl)
+
 pub round-body : (m s0 p0 a : ℕ) → p0 < 2 ^ m → a < 2 ^ m → (body : List Relay) × Crosses m s0 p0 (flip s0 a) a (round s0 p0 a) body
 round-body m s0 p0 a hp ha =
     let x = stroll m p0 a hp ha in
     let y = stroll m a p0 ha hp in
-    let z = stroll m p0 a hp ha in
-    let last = inside (flip s0 a) (p0 ∷ z .0) ++ [] in
-    let mid = inside (flip (flip s0 p0) a) (a ∷ y .0) ++ last in (
-      inside (flip s0 p0) (p0 ∷ x .0) ++ mid,
-      (a, x .0, mid, refl, x .1, (p0, y .0, last, refl, y .1, (a, z .0, [], sym (flip-comm (flip s0 p0) a p0 ∙ ap (λ (u : ℕ). flip u a) (flip-flip s0 p0)), z .1, (refl, refl, refl), refl), refl), refl),
-    )
+    (inside (flip s0 p0) (p0 ∷ x .0) ++ (inside (flip (flip s0 p0) a) (a ∷ y .0) ++ (inside (flip s0 a) (p0 ∷ x .0) ++ [])), round-crosses m s0 p0 a (x .0) (y .0) (x .0) (x .1) (y .1) (x .1))
 
 module _ (m s0 p0 : ℕ) (tb tp : ℕ → ℕ) (hp : p0 < 2 ^ m) (slots : (j : ℕ) → j < suc m → tp j < 2 ^ m) (inner : (j : ℕ) → j < suc m → tb j ≡ s0)
     (differ : (i j : ℕ) → i < suc m → j < suc m → i ≢ j → tp i ≢ tp j) (others : (j : ℕ) → j < suc m → tp j ≢ p0)
@@ -224,14 +235,10 @@ module _ (m s0 p0 : ℕ) (tb tp : ℕ → ℕ) (hp : p0 < 2 ^ m) (slots : (j : �
   abbrev Whole : Type 0
   Whole = (paths : ℕ → List Relay) × TwoFan m s0 p0 (suc m) tb tp paths
 
-  abbrev which : {A : Type 0} → Dec A → List Relay → List Relay → List Relay
-  which (yes e) a b = a
-  which (no ne) a b = b
-
   make : (left : ℕ) → left < suc m → (head : ℕ → List ℕ) → Heads m p0 (suc m) left tp head → Whole
   make left hl head heads =
       let b = round-body m s0 p0 (tp left) hp (slots left hl) in
-      let paths : ℕ → List Relay = λ j. which (ℕ-discrete j left) (b .0 ++ inside s0 (tp left ∷ [])) (inside s0 (head j)) in (
+      let paths : ℕ → List Relay = λ j. when (ℕ-discrete j left) (b .0 ++ inside s0 (tp left ∷ [])) (inside s0 (head j)) in (
         paths,
         round-fan {head = head} {body = b .0} (record {
           inner = inner;
@@ -239,18 +246,10 @@ module _ (m s0 p0 : ℕ) (tb tp : ℕ → ℕ) (hp : p0 < 2 ^ m) (slots : (j : �
           other = others left hl;
           heads = heads;
           crosses = b .1;
-          path-other = λ j h ne. is-no j (b .0 ++ inside s0 (tp left ∷ [])) (inside s0 (head j)) ne (ℕ-discrete j left);
-          path-left = is-yes (b .0 ++ inside s0 (tp left ∷ [])) (inside s0 (head left)) (ℕ-discrete left left);
+          path-other = λ j h ne. when-no (ℕ-discrete j left) (b .0 ++ inside s0 (tp left ∷ [])) (inside s0 (head j)) ne;
+          path-left = when-yes (ℕ-discrete left left) (b .0 ++ inside s0 (tp left ∷ [])) (inside s0 (head left)) refl;
         }),
       )
-    where
-      is-no : (j : ℕ) (a b : List Relay) → j ≢ left → (d : Dec (j ≡ left)) → which d a b ≡ b
-      is-no j a b ne (yes e) = absurd (ne e)
-      is-no j a b ne (no z) = refl
-
-      is-yes : (a b : List Relay) → (d : Dec (left ≡ left)) → which d a b ≡ a
-      is-yes a b (yes e) = refl
-      is-yes a b (no ne) = absurd (ne refl)
 
   swapped : (y : ℕ) → y < m → In (tp m) (f y) → Whole
   swapped y hy on =

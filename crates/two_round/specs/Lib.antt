@@ -1,0 +1,5 @@
+-- The round trip.
+pub mod Around
+pub mod Found
+pub mod Trip
+pub mod Paths
