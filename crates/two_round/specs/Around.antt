@@ -1,12 +1,12 @@
 -- The path that makes the round trip, as it is written: through the blocks behind p0, behind p0 and a, and behind a (`rounded`).
 -- Assumes nothing.
 use Prim.Native.Nat.{ℕ, suc, _+_, _-_, _*_, _^_, _≤_, _<_}
-use mathlib.Core.Path.{_≡_, refl, sym, ap, _∙_, subst}
-use mathlib.Core.List.{List, [], _∷_, _++_, append-assoc, append-nil}
+use mathlib.Core.Path.{_≡_, sym, ap, _∙_, subst}
+use mathlib.Core.List.{List, [], _∷_, _++_, append-assoc}
 use native.Mathlib.Numerals.{add-one}
 use native.Mathlib.Omega.{arith}
-use lib.ListN.{length, set, length-set, length-append}
-use lib.Seq.{sets, length-sets}
+use lib.ListN.{length, set, length-append}
+use lib.Seq.{sets}
 use Rattle.bits.specs.Bit.{flip}
 use Rattle.bits.specs.Laws.{flip-lt}
 use Rattle.two_fan.specs.Relays.{Relay, inside, length-inside}

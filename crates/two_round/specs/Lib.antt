@@ -3,3 +3,4 @@ pub mod Around
 pub mod Found
 pub mod Trip
 pub mod Paths
+pub mod Going

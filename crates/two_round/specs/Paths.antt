@@ -2,7 +2,7 @@
 -- `trip-drawn`: they are a fan. Assumes nothing.
 use Prim.Native.Nat.{ℕ, suc, _+_, _-_, _*_, _^_, _≤_, _<_}
 use mathlib.Core.Path.{_≡_, refl, sym, ap, _∙_, subst}
-use mathlib.Core.Logic.{_⊎_, inl, inr, ⊎-elim, _≢_}
+use mathlib.Core.Logic.{⊎-elim, _≢_}
 use mathlib.Core.List.{List, [], _∷_, _++_}
 use native.Mathlib.Numerals.{add-one}
 use native.Mathlib.Omega.{arith}
@@ -11,7 +11,6 @@ use lib.ListN.{length, getD, take, set, length-take}
 use lib.Seq.{sets, take-all}
 use Rattle.bits.specs.Bit.{flip}
 use Rattle.bits.specs.Laws.{lt-or-le}
-use Rattle.paths.specs.Lists.{Lists}
 use Rattle.paths.specs.Mesh.{width}
 use Rattle.doors.specs.Doors.{Doors}
 use Rattle.doors.specs.Plain.{bit-full}

@@ -1,14 +1,13 @@
 -- What the round trip may be asked (`Trip`), what the cube planner is then asked (`trip-asked`), and what is settled before the paths are
 -- written (`Course`). Assumes nothing.
-use Prim.Native.Nat.{ℕ, suc, _+_, _-_, _*_, _^_, _≤_, _<_}
-use mathlib.Core.Path.{_≡_, refl, sym, ap, _∙_, subst}
-use mathlib.Core.Logic.{_≢_}
+use Prim.Native.Nat.{ℕ, _+_, _-_, _*_, _^_, _≤_, _<_}
+use mathlib.Core.Path.{_≡_, sym, _∙_, subst}
 use mathlib.Core.List.{List}
 use native.Mathlib.Nat.{mul-le-mul-left}
 use native.Mathlib.Omega.{arith}
 use lib.Count.{ones, ones-ones}
 use lib.ListN.{length, getD, set, length-set}
-use lib.Pow.{pow-pos, pow-mono}
+use lib.Pow.{pow-pos}
 use lib.Seq.{getD-set-same, getD-set-other}
 use borrow.Author.Count.{below-more}
 use Rattle.paths.specs.Lists.{in-at}
@@ -108,12 +107,15 @@ module _ {m s w : ℕ} {targets places counts to : List ℕ} (q : Trip m s w tar
     trip-fan = subst (λ (n : ℕ). Doors n (2 ^ m - 1) p0 0 (2 ^ m - 1) (at to) (hops g₁)) (ones-ones m)
         (subst (λ (y : ℕ). Doors (ones (y - 1)) (y - 1) p0 0 (y - 1) (at to) (hops g₁)) e (p .fan))
 
-    pub trip-long : length g₁ ≡ 1120
+    trip-long : length g₁ ≡ 1120
     trip-long = p .keeps .long ∙ h
 
-    -- what searching the paths asks
-    pub trip-few : (j : ℕ) → j < m → length (hops g₁ j) ≤ m + 1
+    trip-few : (j : ℕ) → j < m → length (hops g₁ j) ≤ m + 1
     trip-few j l = trip-fan .each j (bit-full m j l) .short
+
+    -- what searching the paths asks
+    pub trip-finds : (m ≤ 5) × (length g₁ ≡ 1120) × ((j : ℕ) → j < m → length (hops g₁ j) < 34)
+    trip-finds = (q .high, trip-long, λ j l. omega (arith, trip-few j l, q .high))
 
     pub trip-course : (row n : ℕ) → Found m g₁ (at to m) row n → Course m s0 p0 w to row n g₁
     trip-course row n f = record {

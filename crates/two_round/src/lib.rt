@@ -3,7 +3,7 @@
 ghost use mathlib.Core.Path.{_≡_};
 ghost use mathlib.Core.List.{List};
 ghost use Prim.Native.Nat.{ℕ, _+_, _*_, _^_, _<_, _≤_};
-ghost use lib.ListN.{length, getD};
+ghost use lib.ListN.{length};
 ghost use Rattle.grid.specs.Grid.{hops};
 ghost use Rattle.two.specs.Two.{two};
 ghost use Rattle.two_write.specs.Rows.{Drawn};

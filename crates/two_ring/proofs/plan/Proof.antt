@@ -19,7 +19,9 @@ same-length-2 : tie.Need-same-length-2
 same-length-2 c = search needs
 
 returns : tie.Need-returns
-returns c = one-drawn (c .before .before .before .before .before .before .before .before .before .before .before .before .pre) (c .before .before .before .before .before .before .before .before .if1 .taken) (c .before .before .before .before .lay .ensures)
+returns c =
+    let first = c .before .before .before .before in
+    one-drawn (first .before .before .before .before .before .before .before .before .pre) (first .before .before .before .before .if1 .taken) (first .lay .ensures)
 
 shared-slice-read-far : tie.Need-shared-slice-read-far
 shared-slice-read-far c = search needs
@@ -43,7 +45,9 @@ shared-slice-read-lay-3 : tie.Need-shared-slice-read-lay-3
 shared-slice-read-lay-3 c = search needs
 
 lay-requires-3 : tie.Need-lay-requires-3
-lay-requires-3 c κs = ready-side (c .before .before .before .before .before .before .before .before .before .before .before .before .before .before .before .before .before .before .before .pre) 1 (search needs) _ _ (c .before .before .before .before .before .before .before .lay2 .kept .1 .1 .1 .1 .0) (c .before .before .before .before .before .before .before .lay2 .kept .1 .1 .1 .1 .1 .0)
+lay-requires-3 c κs =
+    let first = c .before .before .before .before .before .before .before in
+    ready-side (first .before .before .before .before .before .before .before .before .before .before .before .before .pre) 1 (search needs) _ _ (first .lay2 .kept .1 .1 .1 .1 .0) (first .lay2 .kept .1 .1 .1 .1 .1 .0)
 
 same-length-3 : tie.Need-same-length-3
 same-length-3 c = search needs
@@ -52,7 +56,12 @@ same-length-4 : tie.Need-same-length-4
 same-length-4 c = search needs
 
 returns-2 : tie.Need-returns-2
-returns-2 c = two-drawn (c .before .before .before .before .before .before .before .before .before .before .before .before .before .before .before .before .before .before .before .before .before .before .before .before .pre) _ (ap₂ ltb (c .before .before .before .before .before .before .before .before .before .before .before .before .before .before .before .before .before .before .far .ensures) (c .before .before .before .before .before .before .before .before .before .before .before .before .before .before .before .before .far2 .ensures)) (c .before .before .before .before .before .before .before .before .before .before .before .before .before .before .before .before .before .before .before .before .if1 .left) (c .before .before .before .before .before .before .before .before .before .before .before .before .lay2 .ensures) (c .before .before .before .before .lay3 .ensures)
+returns-2 c =
+    let second = c .before .before .before .before in
+    let first = second .before .before .before .before .before .before .before .before in
+    let far2 = first .before .before .before .before in
+    let far = far2 .before .before in
+    two-drawn (far .before .before .before .before .before .before .pre) _ (ap₂ ltb (far .far .ensures) (far2 .far2 .ensures)) (far .before .before .if1 .left) (first .lay2 .ensures) (second .lay3 .ensures)
 
 pub plan-spec : {M : Type 1} → statement M
 plan-spec =
