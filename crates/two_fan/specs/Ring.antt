@@ -84,7 +84,7 @@ pub same-place : (t u x y : ℕ) → x ≡ at t .0 → y ≡ at t .1 → x ≡ a
 same-place t u x y a b c d =
     sym (place-at t) ∙ ap (λ (z : ℕ). place z (at t .1)) (sym a ∙ c) ∙ ap (place (at u .0)) (sym b ∙ d) ∙ place-at u
 
-at-mod : (n : ℕ) → at (n % 8) ≡ at n
+pub at-mod : (n : ℕ) → at (n % 8) ≡ at n
 at-mod zero = refl
 at-mod (suc zero) = refl
 at-mod (suc (suc zero)) = refl
@@ -140,7 +140,7 @@ left-once (suc i) (suc d) h = (
   left-once i d (omega arith),
 )
 
-right-short : (i d : ℕ) → length (right i d) ≡ d
+pub right-short : (i d : ℕ) → length (right i d) ≡ d
 right-short i zero = refl
 right-short i (suc d) = ap suc (right-short (suc i) d)
 
@@ -201,7 +201,7 @@ ring-laid {i} {k} {near} {tb} {tp} {far} {paths} q = record {
 
 -- ---- there is such a plan
 
-place-below : (b p : ℕ) → place b p < 8
+pub place-below : (b p : ℕ) → place b p < 8
 place-below zero zero = omega arith
 place-below zero (suc p) = omega arith
 place-below (suc zero) zero = omega arith
@@ -227,7 +227,7 @@ module _ (s0 p0 k : ℕ) (tb tp : ℕ → ℕ) (ask : Ask 1 s0 p0 k tb tp) where
   at-spot : (j : ℕ) → j < k → (at (spot j) .0 ≡ tb j) × (at (spot j) .1 ≡ tp j)
   at-spot j h = at-place (tb j) (tp j) (ask .blocks j h) (ask .slots j h)
 
-  at-home : (at home .0 ≡ s0) × (at home .1 ≡ p0)
+  pub at-home : (at home .0 ≡ s0) × (at home .1 ≡ p0)
   at-home = at-place s0 p0 (ask .home-block) (ask .home-slot)
 
   spot-home : (j : ℕ) → j < k → spot j ≢ home
@@ -237,7 +237,7 @@ module _ (s0 p0 k : ℕ) (tb tp : ℕ → ℕ) (ask : Ask 1 s0 p0 k tb tp) where
   spots i j h g ne e =
       ask .differ i j h g ne (sym (at-spot i h .0) ∙ ap (λ (y : ℕ). at y .0) e ∙ at-spot j g .0) (sym (at-spot i h .1) ∙ ap (λ (y : ℕ). at y .1) e ∙ at-spot j g .1)
 
-  reach : (j : ℕ) → j < k → (1 ≤ far j) × (far j < 8) × (at (home + far j) .0 ≡ tb j) × (at (home + far j) .1 ≡ tp j)
+  pub reach : (j : ℕ) → j < k → (1 ≤ far j) × (far j < 8) × (at (home + far j) .0 ≡ tb j) × (at (home + far j) .1 ≡ tp j)
   reach j h =
       let a = place-below s0 p0 in
       let b = place-below (tb j) (tp j) in
@@ -246,7 +246,7 @@ module _ (s0 p0 k : ℕ) (tb tp : ℕ → ℕ) (ask : Ask 1 s0 p0 k tb tp) where
       let e : at (home + far j) ≡ at (spot j) = sym (at-mod (home + far j)) ∙ ap at same ∙ at-mod (spot j) in
       (omega arith, omega arith, ap (λ (r : Relay). r .0) e ∙ at-spot j h .0, ap (λ (r : Relay). r .1) e ∙ at-spot j h .1)
 
-  fars : (i j : ℕ) → i < k → j < k → i ≢ j → far i ≢ far j
+  pub fars : (i j : ℕ) → i < k → j < k → i ≢ j → far i ≢ far j
   fars i j h g ne e =
       let a = place-below s0 p0 in
       let b = place-below (tb i) (tp i) in

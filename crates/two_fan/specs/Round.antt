@@ -1,12 +1,12 @@
 -- The round trip: all of m + 1 targets stand in the source's block. Assumes nothing.
-use Prim.Native.Nat.{ℕ, suc, _+_, _-_, _^_, _≤_, _<_}
+use Prim.Native.Nat.{ℕ, zero, suc, _+_, _-_, _^_, _≤_, _<_}
 use mathlib.Core.Path.{_≡_, refl, sym, ap, _∙_, subst}
 use mathlib.Core.Logic.{_⊎_, inl, inr, ⊎-elim, _≢_}
 use mathlib.Core.List.{List, [], _∷_, _++_, append-nil}
 use native.Mathlib.Nat.{mul-le-mul-left, mul-one}
 use native.Mathlib.Omega.{arith}
 use native.Mathlib.Decide.{ℕ-discrete}
-use lib.ListN.{length}
+use lib.ListN.{length, getD, take}
 use lib.Pow.{pow-pos}
 use Rattle.bits.specs.Bit.{flip}
 use Rattle.bits.specs.Laws.{flip-flip}
@@ -14,7 +14,7 @@ use Rattle.doors.specs.Doors.{In, Fresh, Walk, Way, Doors}
 use Rattle.doors.specs.Paths.{same-or, flip-moves, flip-eq, flip-comm, not-cons}
 use Rattle.doors.specs.Plain.{bit-full}
 use Rattle.two_fan.specs.Relays.{Relay, inside}
-use Rattle.two_fan.specs.Through.{stroll, Crosses}
+use Rattle.two_fan.specs.Through.{Stroll, stroll, Crosses}
 use Rattle.two_fan.specs.Assemble.{TwoFan, Leg, assemble}
 use Rattle.two_fan.specs.Plan.{walk-end, way-end}
 use Rattle.two_fan.specs.Gates.{find, flip-two}
@@ -23,23 +23,35 @@ use Rattle.two_fan.specs.Gates.{find, flip-two}
 abbrev pub round : ℕ → ℕ → ℕ → List ℕ
 round s0 p0 a = flip s0 p0 ∷ flip (flip s0 p0) a ∷ flip s0 a ∷ []
 
--- all targets but `left` have paths in the block that do not meet; none of them meets the slot of `left`, whose path makes the round trip
-pub record Round (m s0 p0 k left : ℕ) (tb tp : ℕ → ℕ) (head : ℕ → List ℕ) (body : List Relay) (paths : ℕ → List Relay) : Type 0 where
-  pub inner : (j : ℕ) → j < k → tb j ≡ s0
-  pub left-in : left < k
-  pub other : tp left ≢ p0
+-- paths in the block to all targets but `left`: they do not meet, and none of them meets the slot of `left`
+pub record Heads (m p0 k left : ℕ) (tp : ℕ → ℕ) (head : ℕ → List ℕ) : Type 0 where
   pub walk : (j : ℕ) → j < k → j ≢ left → Walk (2 ^ m - 1) p0 (tp j) (head j)
   pub fresh : (j : ℕ) → j < k → j ≢ left → Fresh (p0 ∷ head j)
   pub short : (j : ℕ) → j < k → j ≢ left → length (head j) ≤ m + 1
   pub apart : (i j : ℕ) → i < k → j < k → i ≢ left → j ≢ left → i ≢ j → (x : ℕ) → In x (head i) → In x (head j) → ⊥
   pub clear : (j : ℕ) → j < k → j ≢ left → In (tp left) (head j) → ⊥
+
+-- the path of `left` makes the round trip
+pub record Round (m s0 p0 k left : ℕ) (tb tp : ℕ → ℕ) (head : ℕ → List ℕ) (body : List Relay) (paths : ℕ → List Relay) : Type 0 where
+  pub inner : (j : ℕ) → j < k → tb j ≡ s0
+  pub left-in : left < k
+  pub other : tp left ≢ p0
+  pub heads : Heads m p0 k left tp head
   pub crosses : Crosses m s0 p0 (flip s0 (tp left)) (tp left) (round s0 p0 (tp left)) body
   pub path-other : (j : ℕ) → j < k → j ≢ left → paths j ≡ inside s0 (head j)
   pub path-left : paths left ≡ body ++ inside s0 (tp left ∷ [])
 
-abbrev when : {A : Type 0} → Dec A → List ℕ → List ℕ → List ℕ
+abbrev pub when : {A B : Type 0} → Dec A → B → B → B
 when (yes e) a b = a
 when (no ne) a b = b
+
+pub when-yes : {A B : Type 0} (d : Dec A) (a b : B) → A → when d a b ≡ a
+when-yes (yes e) a b h = refl
+when-yes (no ne) a b h = absurd (ne h)
+
+pub when-no : {A B : Type 0} (d : Dec A) (a b : B) → (A → ⊥) → when d a b ≡ b
+when-no (yes e) a b h = absurd (h e)
+when-no (no ne) a b h = refl
 
 round-fresh : (s0 p0 a : ℕ) → a ≢ p0 → Fresh (s0 ∷ round s0 p0 a)
 round-fresh s0 p0 a ne = (
@@ -76,12 +88,12 @@ round-fan {m} {s0} {p0} {k} {left} {tb} {tp} {head} {body} {paths} q =
 
     no-head : (i : ℕ) → i < k → (x : ℕ) → x ≡ tp left → (d : Dec (i ≡ left)) → In x (when d [] (head i)) → ⊥
     no-head i h x e (yes z) w = w
-    no-head i h x e (no ne) w = q .clear i h ne (subst (λ (y : ℕ). In y (head i)) e w)
+    no-head i h x e (no ne) w = q .heads .clear i h ne (subst (λ (y : ℕ). In y (head i)) e w)
 
     heads : (i j : ℕ) → i < k → j < k → i ≢ j → (x : ℕ) (d : Dec (i ≡ left)) (e : Dec (j ≡ left)) → In x (when d [] (head i)) → In x (when e [] (head j)) → ⊥
     heads i j h g ne x (yes d) e y z = y
     heads i j h g ne x (no d) (yes e) y z = z
-    heads i j h g ne x (no d) (no e) y z = q .apart i j h g d e ne x y z
+    heads i j h g ne x (no d) (no e) y z = q .heads .apart i j h g d e ne x y z
 
     leg : (j : ℕ) → j < k → (d : Dec (j ≡ left)) → Leg m s0 p0 (tb j) (tp j) (when d [] (head j)) (when d (round s0 p0 (tp left)) []) (when d (tp left ∷ []) []) (paths j)
     leg j h (yes e) = record {
@@ -104,13 +116,13 @@ round-fan {m} {s0} {p0} {k} {left} {tb} {tp} {head} {body} {paths} q =
       out = tp j;
       body = [];
       path-is = q .path-other j h ne ∙ sym (append-nil (inside s0 (head j)));
-      start = q .walk j h ne;
-      head-fresh = q .fresh j h ne;
+      start = q .heads .walk j h ne;
+      head-fresh = q .heads .fresh j h ne;
       route-fresh = ((λ z. z), tt);
       crosses = (refl, refl, refl);
       lands = (sym (q .inner j h), refl);
       tail-fresh = tt;
-      room = omega (arith, q .short j h ne);
+      room = omega (arith, q .heads .short j h ne);
     }
 
 -- ---- the swap
@@ -127,119 +139,126 @@ pub record Upto (free u t : ℕ) (l : List ℕ) (x : ℕ) (cut : List ℕ) : Typ
   pub part : (y : ℕ) → In y cut → In y l
   pub misses : In t cut → ⊥
 
-pub upto : (free u t x : ℕ) (l : List ℕ) → Walk free u t l → Fresh (u ∷ l) → x ≢ t → In x l → (cut : List ℕ) × Upto free u t l x cut
-upto free u t x [] w f ne h = absurd h
-upto free u t x (v ∷ l) w f ne (inl e) = (
-  v ∷ [],
-  record {
-    walk = (w .0, w .1, w .2, sym e);
-    fresh = (not-cons (λ z. f .0 (inl z)) (λ z. z), ((λ z. z), tt));
-    short = omega arith;
-    part = λ y z. ⊎-elim inl (λ u. absurd u) z;
-    misses = not-cons (λ z. ne (e ∙ sym z)) (λ z. z);
-  },
-)
-upto free u t x (v ∷ []) w f ne (inr h) = absurd h
-upto free u t x (v ∷ c ∷ l) w f ne (inr h) =
-    let r = upto free v t x (c ∷ l) (w .3) (f .1) ne h in
-    let part : (y : ℕ) → In y (v ∷ r .0) → In y (v ∷ c ∷ l) = λ y z. ⊎-elim inl (λ q. inr (r .1 .part y q)) z in (
-      v ∷ r .0,
-      record {
-        walk = (w .0, w .1, w .2, r .1 .walk);
-        fresh = ((λ z. f .0 (part u z)), r .1 .fresh);
-        short = omega (arith, r .1 .short);
-        part = part;
-        misses = not-cons (λ z. f .1 .0 (subst (λ (y : ℕ). In y (c ∷ l)) z (walk-end free v t c (c ∷ l) l refl (w .3)))) (r .1 .misses);
-      },
-    )
+pub upto : (free u t : ℕ) (l : List ℕ) (i : ℕ) → Walk free u t l → Fresh (u ∷ l) → i < length l → getD l i 0 ≢ t → Upto free u t l (getD l i 0) (take (suc i) l)
+upto free u t [] i w f h ne = absurd (omega arith)
+upto free u t (v ∷ l) zero w f h ne = record {
+  walk = (w .0, w .1, w .2, refl);
+  fresh = (not-cons (λ z. f .0 (inl z)) (λ z. z), ((λ z. z), tt));
+  short = omega arith;
+  part = λ y z. ⊎-elim inl (λ u. absurd u) z;
+  misses = not-cons (λ z. ne (sym z)) (λ z. z);
+}
+upto free u t (v ∷ []) (suc i) w f h ne = absurd (omega arith)
+upto free u t (v ∷ c ∷ l) (suc i) w f h ne =
+    let r = upto free v t (c ∷ l) i (w .3) (f .1) (omega arith) ne in
+    let part : (y : ℕ) → In y (v ∷ take (suc i) (c ∷ l)) → In y (v ∷ c ∷ l) = λ y z. ⊎-elim inl (λ q. inr (r .part y q)) z in
+    record {
+      walk = (w .0, w .1, w .2, r .walk);
+      fresh = ((λ z. f .0 (part u z)), r .fresh);
+      short = omega (arith, r .short);
+      part = part;
+      misses = not-cons (λ z. f .1 .0 (subst (λ (y : ℕ). In y (c ∷ l)) z (walk-end free v t c (c ∷ l) l refl (w .3)))) (r .misses);
+    }
 
--- the round trip by walks in its three blocks
-pub round-body : (m s0 p0 a : ℕ) → p0 < 2 ^ m → a < 2 ^ m → (body : List Relay) × Crosses m s0 p0 (flip s0 a) a (round s0 p0 a) body
-round-body m s0 p0 a hp ha =
-    let x = stroll m p0 a hp ha in
-    let y = stroll m a p0 ha hp in
-    let z = stroll m p0 a hp ha in
-    let last = inside (flip s0 a) (p0 ∷ z .0) ++ [] in
-    let mid = inside (flip (flip s0 p0) a) (a ∷ y .0) ++ last in (
-      inside (flip s0 p0) (p0 ∷ x .0) ++ mid,
-      (a, x .0, mid, refl, x .1, (p0, y .0, last, refl, y .1, (a, z .0, [], sym (flip-comm (flip s0 p0) a p0 ∙ ap (λ (u : ℕ). flip u a) (flip-flip s0 p0)), z .1, (refl, refl, refl), refl), refl), refl),
-    )
+in-place : (x : ℕ) (l : List ℕ) → In x l → (i : ℕ) × (i < length l) × (getD l i 0 ≡ x)
+in-place x [] h = absurd h
+in-place x (y ∷ l) (inl e) = (0, omega arith, sym e)
+in-place x (y ∷ l) (inr h) = let r = in-place x l h in (suc (r .0), omega (arith, r .1), r .2)
 
-module _ (m s0 p0 : ℕ) (tb tp : ℕ → ℕ) (hp : p0 < 2 ^ m) (slots : (j : ℕ) → j < suc m → tp j < 2 ^ m) (inner : (j : ℕ) → j < suc m → tb j ≡ s0)
-    (differ : (i j : ℕ) → i < suc m → j < suc m → i ≢ j → tp i ≢ tp j) (others : (j : ℕ) → j < suc m → tp j ≢ p0)
-    (shut : ℕ) (f : ℕ → List ℕ) (fan : Doors m (2 ^ m - 1) p0 shut (2 ^ m - 1) tp f) where
+module _ (m p0 : ℕ) (tp : ℕ → ℕ) (shut : ℕ) (f : ℕ → List ℕ) (fan : Doors m (2 ^ m - 1) p0 shut (2 ^ m - 1) tp f) where
   way : (j : ℕ) → j < m → Way m (2 ^ m - 1) p0 shut (tp j) (f j)
   way j h = fan .each j (bit-full m j h)
 
   not-last : (j : ℕ) → j < suc m → j ≢ m → j < m
   not-last j h ne = omega arith
 
+  -- the last is on no path
+  pub heads-none : ((j : ℕ) → j < m → In (tp m) (f j) → ⊥) → Heads m p0 (suc m) m tp f
+  heads-none n = record {
+    walk = λ j h ne. way j (not-last j h ne) .walk;
+    fresh = λ j h ne. let w = way j (not-last j h ne) in (w .away, w .fresh);
+    short = λ j h ne. way j (not-last j h ne) .short;
+    apart = λ i j h g a b. fan .apart i j (bit-full m i (not-last i h a)) (bit-full m j (not-last j g b));
+    clear = λ j h ne. n j (not-last j h ne);
+  }
+
+  -- it is on that of y: that path is cut there, and y is left
+  pub heads-swapped : (y : ℕ) → y < m → (cut : List ℕ) → Upto (2 ^ m - 1) p0 (tp y) (f y) (tp m) cut → Heads m p0 (suc m) y tp (λ j. when (ℕ-discrete j m) cut (f j))
+  heads-swapped y hy cut c = record {
+    walk = λ j h ne. walk j h (ℕ-discrete j m);
+    fresh = λ j h ne. fresh j h (ℕ-discrete j m);
+    short = λ j h ne. short j h (ℕ-discrete j m);
+    apart = λ i j h g a b ne x p q. apart i j h g a b ne x (ℕ-discrete i m) (ℕ-discrete j m) p q;
+    clear = λ j h ne. clear j h ne (ℕ-discrete j m);
+  }
+    where
+      walk : (j : ℕ) → j < suc m → (d : Dec (j ≡ m)) → Walk (2 ^ m - 1) p0 (tp j) (when d cut (f j))
+      walk j h (yes e) = subst (λ (u : ℕ). Walk (2 ^ m - 1) p0 u cut) (ap tp (sym e)) (c .walk)
+      walk j h (no z) = way j (not-last j h z) .walk
+
+      fresh : (j : ℕ) → j < suc m → (d : Dec (j ≡ m)) → Fresh (p0 ∷ when d cut (f j))
+      fresh j h (yes e) = c .fresh
+      fresh j h (no z) = let w = way j (not-last j h z) in (w .away, w .fresh)
+
+      short : (j : ℕ) → j < suc m → (d : Dec (j ≡ m)) → length (when d cut (f j)) ≤ m + 1
+      short j h (yes e) = omega (arith, c .short, way y hy .short)
+      short j h (no z) = way j (not-last j h z) .short
+
+      clear : (j : ℕ) → j < suc m → j ≢ y → (d : Dec (j ≡ m)) → In (tp y) (when d cut (f j)) → ⊥
+      clear j h ne (yes e) q = c .misses q
+      clear j h ne (no z) q = fan .apart j y (bit-full m j (not-last j h z)) (bit-full m y hy) ne (tp y) q (way-end (way y hy))
+
+      apart : (i j : ℕ) → i < suc m → j < suc m → i ≢ y → j ≢ y → i ≢ j → (x : ℕ) → (d : Dec (i ≡ m)) (e : Dec (j ≡ m)) → In x (when d cut (f i)) → In x (when e cut (f j)) → ⊥
+      apart i j h g a b ne x (yes d) (yes e) p q = ne (d ∙ sym e)
+      apart i j h g a b ne x (yes d) (no e) p q = fan .apart y j (bit-full m y hy) (bit-full m j (not-last j g e)) (λ z. b (sym z)) x (c .part x p) q
+      apart i j h g a b ne x (no d) (yes e) p q = fan .apart i y (bit-full m i (not-last i h d)) (bit-full m y hy) a x p (c .part x q)
+      apart i j h g a b ne x (no d) (no e) p q = fan .apart i j (bit-full m i (not-last i h d)) (bit-full m j (not-last j g e)) ne x p q
+
+-- the round trip by walks in its three blocks
+pub round-crosses : (m s0 p0 a : ℕ) (x y z : List ℕ) → Stroll m p0 a x → Stroll m a p0 y → Stroll m p0 a z
+    → Crosses m s0 p0 (flip s0 a) a (round s0 p0 a) (inside (flip s0 p0) (p0 ∷ x) ++ (inside (flip (flip s0 p0) a) (a ∷ y) ++ (inside (flip s0 a) (p0 ∷ z) ++ [])))
+round-crosses m s0 p0 a x y z sx sy sz =
+    let last = inside (flip s0 a) (p0 ∷ z) ++ [] in
+    let mid = inside (flip (flip s0 p0) a) (a ∷ y) ++ last in
+    let back : flip s0 a ≡ flip (flip (flip s0 p0) a) p0 = sym (flip-comm (flip s0 p0) a p0 ∙ ap (λ (u : ℕ). flip u a) (flip-flip s0 p0)) in
+    (a, x, mid, refl, sx, (p0, y, last, refl, sy, (a, z, [], back, sz, (refl, refl, refl), refl), refl), refl)
+
+pub round-body : (m s0 p0 a : ℕ) → p0 < 2 ^ m → a < 2 ^ m → (body : List Relay) × Crosses m s0 p0 (flip s0 a) a (round s0 p0 a) body
+round-body m s0 p0 a hp ha =
+    let x = stroll m p0 a hp ha in
+    let y = stroll m a p0 ha hp in
+    (inside (flip s0 p0) (p0 ∷ x .0) ++ (inside (flip (flip s0 p0) a) (a ∷ y .0) ++ (inside (flip s0 a) (p0 ∷ x .0) ++ [])), round-crosses m s0 p0 a (x .0) (y .0) (x .0) (x .1) (y .1) (x .1))
+
+module _ (m s0 p0 : ℕ) (tb tp : ℕ → ℕ) (hp : p0 < 2 ^ m) (slots : (j : ℕ) → j < suc m → tp j < 2 ^ m) (inner : (j : ℕ) → j < suc m → tb j ≡ s0)
+    (differ : (i j : ℕ) → i < suc m → j < suc m → i ≢ j → tp i ≢ tp j) (others : (j : ℕ) → j < suc m → tp j ≢ p0)
+    (shut : ℕ) (f : ℕ → List ℕ) (fan : Doors m (2 ^ m - 1) p0 shut (2 ^ m - 1) tp f) where
   abbrev Whole : Type 0
   Whole = (paths : ℕ → List Relay) × TwoFan m s0 p0 (suc m) tb tp paths
 
-  abbrev which : {A : Type 0} → Dec A → List Relay → List Relay → List Relay
-  which (yes e) a b = a
-  which (no ne) a b = b
-
-  make : (left : ℕ) → left < suc m → (head : ℕ → List ℕ) → ((j : ℕ) → j < suc m → j ≢ left → Walk (2 ^ m - 1) p0 (tp j) (head j) × Fresh (p0 ∷ head j) × (length (head j) ≤ m + 1) × (In (tp left) (head j) → ⊥))
-      → ((i j : ℕ) → i < suc m → j < suc m → i ≢ left → j ≢ left → i ≢ j → (x : ℕ) → In x (head i) → In x (head j) → ⊥) → Whole
-  make left hl head each apart =
+  make : (left : ℕ) → left < suc m → (head : ℕ → List ℕ) → Heads m p0 (suc m) left tp head → Whole
+  make left hl head heads =
       let b = round-body m s0 p0 (tp left) hp (slots left hl) in
-      let paths : ℕ → List Relay = λ j. which (ℕ-discrete j left) (b .0 ++ inside s0 (tp left ∷ [])) (inside s0 (head j)) in (
+      let paths : ℕ → List Relay = λ j. when (ℕ-discrete j left) (b .0 ++ inside s0 (tp left ∷ [])) (inside s0 (head j)) in (
         paths,
         round-fan {head = head} {body = b .0} (record {
           inner = inner;
           left-in = hl;
           other = others left hl;
-          walk = λ j h ne. each j h ne .0;
-          fresh = λ j h ne. each j h ne .1;
-          short = λ j h ne. each j h ne .2;
-          apart = apart;
-          clear = λ j h ne. each j h ne .3;
+          heads = heads;
           crosses = b .1;
-          path-other = λ j h ne. is-no j (b .0 ++ inside s0 (tp left ∷ [])) (inside s0 (head j)) ne (ℕ-discrete j left);
-          path-left = is-yes (b .0 ++ inside s0 (tp left ∷ [])) (inside s0 (head left)) (ℕ-discrete left left);
+          path-other = λ j h ne. when-no (ℕ-discrete j left) (b .0 ++ inside s0 (tp left ∷ [])) (inside s0 (head j)) ne;
+          path-left = when-yes (ℕ-discrete left left) (b .0 ++ inside s0 (tp left ∷ [])) (inside s0 (head left)) refl;
         }),
       )
-    where
-      is-no : (j : ℕ) (a b : List Relay) → j ≢ left → (d : Dec (j ≡ left)) → which d a b ≡ b
-      is-no j a b ne (yes e) = absurd (ne e)
-      is-no j a b ne (no z) = refl
 
-      is-yes : (a b : List Relay) → (d : Dec (left ≡ left)) → which d a b ≡ a
-      is-yes a b (yes e) = refl
-      is-yes a b (no ne) = absurd (ne refl)
-
-  -- the last is on no path
-  none : ((j : ℕ) → j < m → In (tp m) (f j) → ⊥) → Whole
-  none n = make m (omega arith) f
-      (λ j h ne. let l = not-last j h ne in let w = way j l in (w .walk, (w .away, w .fresh), w .short, n j l))
-      (λ i j h g a b ne. fan .apart i j (bit-full m i (not-last i h a)) (bit-full m j (not-last j g b)) ne)
-
-  -- it is on that of y: that path is cut there, and y is left
   swapped : (y : ℕ) → y < m → In (tp m) (f y) → Whole
   swapped y hy on =
-      let w = way y hy in
-      let c = upto (2 ^ m - 1) p0 (tp y) (tp m) (f y) (w .walk) (w .away, w .fresh) (differ m y (omega arith) (omega arith) (λ e. omega arith)) on in
-      make y (omega arith) (λ j. when (ℕ-discrete j m) (c .0) (f j))
-      (λ j h ne. each (c .0) (c .1) j h ne (ℕ-discrete j m))
-      (λ i j h g a b ne x p q. apart (c .0) (c .1) i j h g a b ne x (ℕ-discrete i m) (ℕ-discrete j m) p q)
-    where
-      each : (cut : List ℕ) → Upto (2 ^ m - 1) p0 (tp y) (f y) (tp m) cut → (j : ℕ) → j < suc m → j ≢ y → (d : Dec (j ≡ m))
-          → Walk (2 ^ m - 1) p0 (tp j) (when d cut (f j)) × Fresh (p0 ∷ when d cut (f j)) × (length (when d cut (f j)) ≤ m + 1) × (In (tp y) (when d cut (f j)) → ⊥)
-      each cut c j h ne (yes e) =
-          (subst (λ (u : ℕ). Walk (2 ^ m - 1) p0 u cut) (ap tp (sym e)) (c .walk), c .fresh, omega (arith, c .short, way y hy .short), c .misses)
-      each cut c j h ne (no z) =
-          let l = not-last j h z in
-          let w = way j l in
-          (w .walk, (w .away, w .fresh), w .short, λ q. fan .apart j y (bit-full m j l) (bit-full m y hy) ne (tp y) q (way-end (way y hy)))
-
-      apart : (cut : List ℕ) → Upto (2 ^ m - 1) p0 (tp y) (f y) (tp m) cut → (i j : ℕ) → i < suc m → j < suc m → i ≢ y → j ≢ y → i ≢ j → (x : ℕ)
-          → (d : Dec (i ≡ m)) (e : Dec (j ≡ m)) → In x (when d cut (f i)) → In x (when e cut (f j)) → ⊥
-      apart cut c i j h g a b ne x (yes d) (yes e) p q = ne (d ∙ sym e)
-      apart cut c i j h g a b ne x (yes d) (no e) p q = fan .apart y j (bit-full m y hy) (bit-full m j (not-last j g e)) (λ z. b (sym z)) x (c .part x p) q
-      apart cut c i j h g a b ne x (no d) (yes e) p q = fan .apart i y (bit-full m i (not-last i h d)) (bit-full m y hy) a x p (c .part x q)
-      apart cut c i j h g a b ne x (no d) (no e) p q = fan .apart i j (bit-full m i (not-last i h d)) (bit-full m j (not-last j g e)) ne x p q
+      let w = way m p0 tp shut f fan y hy in
+      let at = in-place (tp m) (f y) on in
+      let ends : getD (f y) (at .0) 0 ≢ tp y = λ e. differ m y (omega arith) (omega arith) (λ z. omega arith) (sym (at .2) ∙ e) in
+      let c = upto (2 ^ m - 1) p0 (tp y) (f y) (at .0) (w .walk) (w .away, w .fresh) (at .1) ends in
+      make y (omega arith) (λ j. when (ℕ-discrete j m) (take (suc (at .0)) (f y)) (f j))
+      (heads-swapped m p0 tp shut f fan y hy (take (suc (at .0)) (f y)) (subst (λ (x : ℕ). Upto (2 ^ m - 1) p0 (tp y) (f y) x (take (suc (at .0)) (f y))) (at .2) c))
 
   pub round-trip : (paths : ℕ → List Relay) × TwoFan m s0 p0 (suc m) tb tp paths
-  round-trip = ⊎-elim (λ x. swapped (x .0) (x .1) (x .2)) none (find (λ j. In (tp m) (f j)) (λ j. in? (tp m) (f j)) m)
+  round-trip = ⊎-elim (λ x. swapped (x .0) (x .1) (x .2)) (λ n. make m (omega arith) f (heads-none m p0 tp shut f fan n)) (find (λ j. In (tp m) (f j)) (λ j. in? (tp m) (f j)) m)

@@ -1,52 +1,89 @@
-// The round trip: all of m + 1 targets stand in the source's block.
+// The round trip: as many targets as a relay has links, all in the source's block. All but one are reached inside the block, the last by
+// the blocks around it. Inner: the planner meets each `requires`.
+ghost use mathlib.Core.Path.{_≡_};
+ghost use mathlib.Core.List.{List};
+ghost use Prim.Native.Nat.{ℕ, _+_, _*_, _^_, _<_, _≤_};
+ghost use lib.ListN.{length};
+ghost use Rattle.two_write.specs.Row.{hops};
+ghost use Rattle.two.specs.Two.{two};
+ghost use Rattle.two_write.specs.Rows.{Drawn};
+ghost use Rattle.two_round.specs.Around.{Rounded};
+ghost use Rattle.two_round.specs.Found.{Stands, Found};
+ghost use Rattle.two_round.specs.Trip.{Trip, Slots, Course};
+ghost use Rattle.two_round.specs.Paths.{Part, Written};
+use two::Order;
 
-// The row whose path stands on the slot x, and after how many hops; or 8.
+// So many hops along the path of a row.
 pub struct Spot {
     pub row: usize,
     pub hops: usize,
 }
 
-fn place_in(grid: &[u64; 1120], row: usize, x: u64) -> usize {
+// The slots of the targets.
+fn slots_of(order: Order, targets: &[u64]) -> [u64; 32]
+    requires { ⌜ (order .0 ≤ 5) × (length (now targets) ≤ 32) ⌝ }
+    ensures { λ r. ⌜ Slots (order .0) (now (targets .entry)) r ⌝ }
+{
+    let mut to = [0u64; 32];
+    let mut i: usize = 0;
+    while i < targets.len() {
+        to[i] = two::slot_of(order, targets[i]).0;
+        i += 1;
+    }
+    to
+}
+
+// After how many hops the path of a row stands on the slot x; 0: never.
+fn hops_to(grid: &[u64; 1120], row: usize, x: u64) -> usize
+    requires { ⌜ (row < 32) × (length (now grid) ≡ 1120) × (length (hops (now grid) row) < 34) ⌝ }
+    ensures { λ r. ⌜ Stands (hops (now (grid .entry)) row) x r ⌝ }
+{
     let n = grid[row * 35] as usize;
     let mut i: usize = 0;
     while i < n {
         if two_write::hop(grid, row, i) == x {
-            return i;
+            return i + 1;
         }
         i += 1;
     }
-    34
+    0
 }
 
-fn find(grid: &[u64; 1120], m: u32, x: u64) -> Spot {
+// Where the paths of the first m rows stand on the slot x; the row m: nowhere.
+fn find(grid: &[u64; 1120], m: usize, x: u64) -> Spot
+    requires { ⌜ (m ≤ 5) × (length (now grid) ≡ 1120) × ((j : ℕ) → j < m → length (hops (now grid) j) < 34) ⌝ }
+    ensures { λ r. ⌜ Found m (now (grid .entry)) x (r .row) (r .hops) ⌝ }
+{
     let mut y: usize = 0;
-    while y < m as usize {
-        let i = place_in(grid, y, x);
-        if i < 34 {
-            return Spot {
-                row: y,
-                hops: i + 1,
-            };
+    while y < m {
+        let n = hops_to(grid, y, x);
+        if n != 0 {
+            return Spot { row: y, hops: n };
         }
         y += 1;
     }
+    Spot { row: m, hops: 0 }
+}
+
+// The slots of path j, which stays in the block: the last is the cut of a row, any other its own row.
+fn part_of(grid: &[u64; 1120], m: usize, s: Spot, j: usize) -> Spot
+    requires { ⌜ (j ≤ m) × (j ≡ s .row → ⊥) × ((s0 p0 w : ℕ) × (to : List ℕ) × Course m s0 p0 w to (s .row) (s .hops) (now grid)) ⌝ }
+    ensures { λ r. ⌜ Part m (s .row) (s .hops) (now (grid .entry)) j (r .row) (r .hops) ⌝ }
+{
+    if j == m {
+        return s;
+    }
     Spot {
-        row: m as usize,
-        hops: 0,
+        row: j,
+        hops: grid[j * 35] as usize,
     }
 }
 
-// Writes the first n slots of a row.
-fn write_row(first: u64, grid: &[u64; 1120], row: usize, n: usize, at: usize, out: &mut [u64]) {
-    let mut i: usize = 0;
-    while i < n {
-        out[at + i] = first + two_write::hop(grid, row, i);
-        i += 1;
-    }
-}
-
-// The path to the slot a by way of the blocks behind p0, p0 and a, and a; returns its hops.
-fn write_round(m: u32, source: u64, s0: u64, p0: u64, a: u64, at: usize, out: &mut [u64]) -> u64 {
+// Writes the path to the slot a of block s0 by way of the blocks behind p0, behind p0 and a, and behind a; returns its hops.
+fn write_round(m: u32, source: u64, s0: u64, p0: u64, a: u64, at: usize, out: &mut [u64]) -> u64
+    requires { ⌜ (m ≤ 5) × (s0 < 2 ^ (2 ^ m)) × (p0 < 2 ^ m) × (a < 2 ^ m) × (at + (3 * m + 5) ≤ length (now out)) ⌝ }
+    ensures { λ r. ⌜ Rounded m source s0 p0 a at (now (out .entry)) (now (out .exit)) r ⌝ }
+{
     let x = bits::flip(s0, p0 as u32);
     let y = bits::flip(x, a as u32);
     let z = bits::flip(s0, a as u32);
@@ -58,49 +95,49 @@ fn write_round(m: u32, source: u64, s0: u64, p0: u64, a: u64, at: usize, out: &m
     (r - at) as u64
 }
 
-pub fn plan(
+// Writes path j.
+fn write_path(
     m: u32,
     source: u64,
-    targets: &[u64],
+    s0: u64,
+    p0: u64,
     w: usize,
+    to: [u64; 32],
+    s: Spot,
+    grid: &[u64; 1120],
+    j: usize,
     places: &mut [u64],
     counts: &mut [u64],
-) {
-    let size = grid::pow(m);
-    let s0 = source >> m;
-    let p0 = source % size;
-    let mut to = [0u64; 32];
-    let mut i: usize = 0;
-    while i < targets.len() {
-        to[i] = targets[i] % size;
-        i += 1;
+)
+    requires { ⌜ Course m s0 p0 w to (s .row) (s .hops) (now grid) × (j ≤ m) × (j * w + w ≤ length (now places)) × (j < length (now counts)) ⌝ }
+    ensures { λ _. ⌜ Written m source s0 p0 w to (s .row) (s .hops) (now (grid .entry)) j (now (places .entry)) (now (counts .entry)) (now (places .exit)) (now (counts .exit)) ⌝ }
+{
+    let at = j * w;
+    if j == s.row {
+        counts[j] = write_round(m, source, s0, p0, to[j], at, places);
+        return;
     }
-    let mut grid = [0u64; 1120];
-    cube_plan::plan(size - 1, p0, 0, size_full(m), to, &mut grid);
-    let last = to[m as usize];
-    let s = find(&grid, m, last);
-    let first = two_write::base(m, s0);
-    let mut j: usize = 0;
-    while j <= m as usize {
-        if j == s.row {
-            counts[j] = write_round(m, source, s0, p0, to[j], j * w, places);
-        } else {
-            let mut row = j;
-            if j == m as usize {
-                row = s.row;
-            }
-            let mut n = grid[row * 35] as usize;
-            if j == m as usize {
-                n = s.hops;
-            }
-            places[j * w] = source;
-            write_row(first, &grid, row, n, j * w + 1, places);
-            counts[j] = n as u64;
-        }
-        j += 1;
-    }
+    let part = part_of(grid, m as usize, s, j);
+    places[at] = source;
+    two_write::write_part(m, s0, grid, part.row, part.hops, at + 1, places);
+    counts[j] = part.hops as u64;
 }
 
-fn size_full(m: u32) -> u64 {
-    grid::pow(m) - 1
+// Writes a fan to the targets, m + 1 in the source's block; a path takes w places.
+pub fn plan(m: u32, source: u64, targets: &[u64], w: usize, places: &mut [u64], counts: &mut [u64])
+    requires { ⌜ Trip m source w (now targets) (now places) (now counts) ⌝ }
+    ensures { λ _. ⌜ Drawn (two m) source (now (targets .entry)) (now (places .entry)) (now (counts .entry)) (now (places .exit)) (now (counts .exit)) ⌝ }
+{
+    let order = Order(m as u64);
+    let s0 = two::block_of(order, source).0;
+    let p0 = two::slot_of(order, source).0;
+    let to = slots_of(order, targets);
+    let size = grid::pow(m);
+    let grid = two_rows::plan_rows(size - 1, p0, 0, size - 1, to);
+    let s = find(&grid, m as usize, to[m as usize]);
+    let mut j: usize = 0;
+    while j <= m as usize {
+        write_path(m, source, s0, p0, w, to, s, &grid, j, places, counts);
+        j += 1;
+    }
 }

@@ -39,7 +39,7 @@ base-fits {m} {b} h l =
 -- ---- a relay of a row
 
 -- the blocks of a walk are blocks of the mesh
-walk-below : (n free u t : ℕ) (l : List ℕ) → ((i : ℕ) → bit i free ≡ 1 → i < n) → u < 2 ^ n → Walk free u t l → (x : ℕ) → In x l → x < 2 ^ n
+pub walk-below : (n free u t : ℕ) (l : List ℕ) → ((i : ℕ) → bit i free ≡ 1 → i < n) → u < 2 ^ n → Walk free u t l → (x : ℕ) → In x l → x < 2 ^ n
 walk-below n free u t [] h lt w x g = absurd g
 walk-below n free u t (v ∷ l) h lt w x (inl e) = subst (λ (y : ℕ). y < 2 ^ n) (sym (e ∙ w .2)) (flip-lt n u (w .0) lt (h (w .0) (w .1)))
 walk-below n free u t (v ∷ l) h lt w x (inr g) =

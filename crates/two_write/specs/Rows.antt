@@ -172,3 +172,12 @@ ready-drawing {mesh} {s} {targets} {places} {counts} P r = drawing-none (width m
 pub drawing-drawn : {mesh : Mesh} {s : ℕ} {targets places counts places₁ counts₁ : List ℕ} {P : ℕ → List ℕ → Type 0}
     → (d : Drawing (width mesh) s (length targets) P places counts places₁ counts₁ (length targets)) → Lists mesh s targets (drawn d) → Drawn mesh s targets places counts places₁ counts₁
 drawing-drawn d f = record { paths = drawn d; fan = f; laid = drawn-laid d; rest = d .rest; kept = d .kept }
+
+-- the same lists are the same fan
+pub lists-same : {mesh : Mesh} {s : ℕ} {targets : List ℕ} {f g : ℕ → List ℕ} → Lists mesh s targets f → ((j : ℕ) → j < length targets → g j ≡ f j) → Lists mesh s targets g
+lists-same {mesh} {s} {targets} {f} {g} q same = record {
+  chain = λ j h. rw (same j h) (q .chain j h);
+  short = λ j h. rw (same j h) (q .short j h);
+  fresh = λ j h. rw (same j h) (q .fresh j h);
+  apart = λ i j h l ne x a b. q .apart i j h l ne x (rw (same i h) at a) (rw (same j l) at b);
+}

@@ -117,6 +117,28 @@ pub fn write_slots(m: u32, b: u64, slots: [u64; 8], n: usize, at: usize, out: &m
     at + n
 }
 
+// Writes the relays of the first n slots of a row, all of block b.
+pub fn write_part(
+    m: u32,
+    b: u64,
+    grid: &[u64; 1120],
+    row: usize,
+    n: usize,
+    at: usize,
+    out: &mut [u64],
+) -> usize
+    requires { ⌜ (m ≤ 5) × (b < 2 ^ (2 ^ m)) × (row < 32) × (length (now grid) ≡ 1120) × (length (hops (now grid) row) < 34) × (n ≤ length (hops (now grid) row)) × Below m n (hops (now grid) row) × (at + n ≤ length (now out)) ⌝ }
+    ensures { λ r. ⌜ Slotted m b (take n (hops (now (grid .entry)) row)) at (now (out .entry)) (now (out .exit)) r ⌝ }
+{
+    let first = base(m, b);
+    let mut i: usize = 0;
+    while i < n {
+        out[at + i] = first + hop(grid, row, i);
+        i += 1;
+    }
+    at + n
+}
+
 // Writes the relays of the slots of a row, all of block b.
 pub fn write_head(
     m: u32,
@@ -129,12 +151,5 @@ pub fn write_head(
     requires { ⌜ (m ≤ 5) × (b < 2 ^ (2 ^ m)) × (row < 32) × (length (now grid) ≡ 1120) × (length (hops (now grid) row) < 34) × Below m (length (hops (now grid) row)) (hops (now grid) row) × (at + length (hops (now grid) row) ≤ length (now out)) ⌝ }
     ensures { λ r. ⌜ Slotted m b (hops (now (grid .entry)) row) at (now (out .entry)) (now (out .exit)) r ⌝ }
 {
-    let first = base(m, b);
-    let n = grid[row * 35] as usize;
-    let mut i: usize = 0;
-    while i < n {
-        out[at + i] = first + hop(grid, row, i);
-        i += 1;
-    }
-    at + n
+    write_part(m, b, grid, row, grid[row * 35] as usize, at, out)
 }

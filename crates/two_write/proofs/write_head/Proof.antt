@@ -1,92 +1,44 @@
--- `two_write::write_head` meets its contract: the invariant is `Slotting`. Assumes nothing.
-use Prim.Native.Nat.{_-_, _*_}
+-- `two_write::write_head` meets its contract: the part is the whole row. Assumes nothing.
+use Prim.Native.Nat.{_*_}
 use native.Mathlib.Omega.{arith}
 use lib.ListN.{getD}
-use Rattle.two_write.specs.Row.{hops, hops-length}
-use Rattle.two_write.specs.Blocks.{base-fits}
-use Rattle.two_write.specs.Slots.{Slotting, slotting-none, slotting-more, slotting-done, slotted-all}
+use Rattle.two_write.specs.Row.{hops-length}
+use Rattle.two_write.specs.Slots.{slotted-all}
 use borrow.Author.Needs.{needs}
 use Rattle.two_write.proofs.write_head.Statement.{statement}
 use Rattle.two_write.proofs.write_head.Tie as tie
 
-abbrev Inv-loop : tie.InvT-loop
-Inv-loop m b grid row at out₀ first n i₀ out i = Slotting first (hops grid row) n at out₀ out i
+mul-write-part : tie.Need-mul-write-part
+mul-write-part c = search needs
 
-abbrev μ-loop : tie.MeasureT-loop
-μ-loop m b grid row at out₀ first n i₀ out i = n - i
+mul-write-part-2 : tie.Need-mul-write-part-2
+mul-write-part-2 c = search needs
 
-base-requires : tie.Need-base-requires Inv-loop μ-loop
-base-requires c κs = search needs
+element-copy-out-write-part : tie.Need-element-copy-out-write-part
+element-copy-out-write-part c = search needs
 
-mul-n : tie.Need-mul-n Inv-loop μ-loop
-mul-n c = search needs
-
-mul-n-2 : tie.Need-mul-n-2 Inv-loop μ-loop
-mul-n-2 c = search needs
-
-element-copy-out-n : tie.Need-element-copy-out-n Inv-loop μ-loop
-element-copy-out-n c = search needs
-
-loop-holds : tie.Need-loop-holds Inv-loop μ-loop
-loop-holds c = slotting-none _ _ _ _ _ (omega (arith, hops-length (c .before .before .before .args .grid .now) (c .before .before .before .args .row)))
-
-hop-requires : tie.Need-hop-requires Inv-loop μ-loop
-hop-requires c κs = search needs
-
-add-out : tie.Need-add-out Inv-loop μ-loop
-add-out c =
-    let s = c .before .before .before .before .before .before in
+write-part-requires : tie.Need-write-part-requires
+write-part-requires c κs =
+    let s = c .before .before .before in
+    let p = s .pre in
     let len = hops-length (s .args .grid .now) (s .args .row) in
-    omega (arith, base-fits (s .pre .0) (s .pre .1), c .before .before .before .before .base .ensures, c .hop .ensures, s .pre .5 (c .before .before .loop .i) (omega arith))
+    (p .0, p .1, p .2, p .3, p .4, omega arith, (λ i h. p .5 i (omega arith)), omega arith)
 
-add-out-2 : tie.Need-add-out-2 Inv-loop μ-loop
-add-out-2 c = search needs
+same-length : tie.Need-same-length
+same-length c = search needs
 
-mul-out : tie.Need-mul-out Inv-loop μ-loop
-mul-out c = search needs
-
-slice-write-out : tie.Need-slice-write-out Inv-loop μ-loop
-slice-write-out c = search needs
-
-add-i : tie.Need-add-i Inv-loop μ-loop
-add-i c = search needs
-
-loop-less : tie.Need-loop-less Inv-loop μ-loop
-loop-less c = search needs
-
-loop-again : tie.Need-loop-again Inv-loop μ-loop
-loop-again c = slotting-more _ (c .before .before .loop .inv) (c .before .loop-test .taken) (c .hop .ensures)
-
-add-result : tie.Need-add-result Inv-loop μ-loop
-add-result c = search needs
-
-same-length : tie.Need-same-length Inv-loop μ-loop
-same-length c = c .before .loop .inv .long
-
-returns : tie.Need-returns Inv-loop μ-loop
+returns : tie.Need-returns
 returns c =
-    let s = c .before .before .before .before .before in
-    slotted-all (getD (s .args .grid .now) (s .args .row * 35) 0) (omega (arith, hops-length (s .args .grid .now) (s .args .row))) (slotting-done _ _ (c .before .before .before .base .ensures) (c .before .loop .inv) (c .loop-test .left))
+    let s = c .before .before .before .before .before .before in
+    slotted-all (getD (s .args .grid .now) (s .args .row * 35) 0) (omega (arith, hops-length (s .args .grid .now) (s .args .row))) (c .before .before .write-part .ensures)
 
 pub write-head-spec : {M : Type 1} → statement M
 write-head-spec =
     tie.close
     (tie.spec
-    Inv-loop
-    μ-loop
-    base-requires
-    mul-n
-    mul-n-2
-    element-copy-out-n
-    loop-holds
-    hop-requires
-    add-out
-    add-out-2
-    mul-out
-    slice-write-out
-    add-i
-    loop-less
-    loop-again
-    add-result
+    mul-write-part
+    mul-write-part-2
+    element-copy-out-write-part
+    write-part-requires
     same-length
     returns)
