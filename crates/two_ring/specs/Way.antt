@@ -26,32 +26,23 @@ relayAt n = number 1 (at n)
 abbrev pub spotOf : ℕ → ℕ
 spotOf x = place (block 1 x) (slot 1 x)
 
-ring-at : (n : ℕ) → n < 8 → getD ring n 0 ≡ relayAt n
-unfolding ring
-ring-at zero h = refl
-ring-at (suc zero) h = refl
-ring-at (suc (suc zero)) h = refl
-ring-at (suc (suc (suc zero))) h = refl
-ring-at (suc (suc (suc (suc zero)))) h = refl
-ring-at (suc (suc (suc (suc (suc zero))))) h = refl
-ring-at (suc (suc (suc (suc (suc (suc zero)))))) h = refl
-ring-at (suc (suc (suc (suc (suc (suc (suc zero))))))) h = refl
-ring-at (suc (suc (suc (suc (suc (suc (suc (suc n)))))))) h = absurd (omega arith)
+-- the list holds f at each place
+abbrev Holds : (ℕ → ℕ) → List ℕ → Type 0
+Holds f [] = Unit
+Holds f (x ∷ l) = (x ≡ f 0) × Holds (λ n. f (suc n)) l
+
+holds-at : (f : ℕ → ℕ) (l : List ℕ) (n : ℕ) → Holds f l → n < length l → getD l n 0 ≡ f n
+holds-at f [] n h lt = absurd (omega arith)
+holds-at f (x ∷ l) zero h lt = h .0
+holds-at f (x ∷ l) (suc n) h lt = holds-at (λ k. f (suc k)) l n (h .1) (omega arith)
 
 pub ring-is : (n : ℕ) → getD ring (n % 8) 0 ≡ relayAt n
-ring-is n = ring-at (n % 8) (omega arith) ∙ ap (number 1) (at-mod n)
+unfolding ring
+ring-is n = holds-at relayAt ring (n % 8) (refl, (refl, (refl, (refl, (refl, (refl, (refl, (refl, tt)))))))) (omega arith) ∙ ap (number 1) (at-mod n)
 
 pub spots-is : (x : ℕ) → x < 8 → getD spots x 0 ≡ spotOf x
 unfolding spots
-spots-is zero h = refl
-spots-is (suc zero) h = refl
-spots-is (suc (suc zero)) h = refl
-spots-is (suc (suc (suc zero))) h = refl
-spots-is (suc (suc (suc (suc zero)))) h = refl
-spots-is (suc (suc (suc (suc (suc zero))))) h = refl
-spots-is (suc (suc (suc (suc (suc (suc zero)))))) h = refl
-spots-is (suc (suc (suc (suc (suc (suc (suc zero))))))) h = refl
-spots-is (suc (suc (suc (suc (suc (suc (suc (suc n)))))))) h = absurd (omega arith)
+spots-is x h = holds-at spotOf spots x (refl, (refl, (refl, (refl, (refl, (refl, (refl, (refl, tt)))))))) (omega arith)
 
 -- ---- a way along the ring
 

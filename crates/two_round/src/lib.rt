@@ -123,7 +123,8 @@ fn write_path(
     counts[j] = part.hops as u64;
 }
 
-// Writes a fan to the targets, m + 1 in the source's block; a path takes w places.
+// Writes a fan to the targets, m + 1 in the source's block; a path takes w places. To 1, 2 and 3 from 0 in order 2, 3 goes around:
+// 0, 4, 5, 7, 39, 38, 36, 32, 33, 35, 3.
 pub fn plan(m: u32, source: u64, targets: &[u64], w: usize, places: &mut [u64], counts: &mut [u64])
     requires { ⌜ Trip m source w (now targets) (now places) (now counts) ⌝ }
     ensures { λ _. ⌜ Drawn (two m) source (now (targets .entry)) (now (places .entry)) (now (counts .entry)) (now (places .exit)) (now (counts .exit)) ⌝ }
