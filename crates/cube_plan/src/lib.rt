@@ -8,7 +8,7 @@ ghost use Rattle.cube_plan.specs.Fan.{Begun, Shifted, Filled, Settled, S
 use paths::FILLER;
 
 // Paths from s to the targets of the rows m, in the dimensions `free`, through doors that are not shut.
-fn plan(free: u64, s: u64, shut: u64, m: u64, w: usize, grid: &mut [u64])
+pub fn plan(free: u64, s: u64, shut: u64, m: u64, w: usize, grid: &mut [u64])
     requires { ⌜ Asked free s shut m w (now grid) ⌝ }
     ensures { λ _. ⌜ Planned free s shut m w (now (grid .entry)) (now (grid .exit)) ⌝ }
 {

@@ -1,0 +1,60 @@
+-- `two_draw::draw` meets its contract: each call is asked what the calls before it give. Assumes nothing.
+use mathlib.Core.Path.{_≡_}
+use native.Mathlib.Omega.{arith}
+use Rattle.two_draw.specs.Draft.{over-ask}
+use Rattle.two_draw.specs.Draws.{draws-small, blocks-ask, planned, all-inside, head-ask, held, writes, painted}
+use Rattle.two_draw.proofs.draw.Statement.{statement}
+use Rattle.two_draw.proofs.draw.Tie as tie
+
+choose-requires : tie.Need-choose-requires
+choose-requires c κs = c .before .before .pre .asks
+
+block-bits-requires : tie.Need-block-bits-requires
+block-bits-requires c κs = draws-small (c .before .before .before .before .before .pre) .0
+
+plan-rows-requires : tie.Need-plan-rows-requires
+plan-rows-requires c κs = blocks-ask (c .before .before .before .before .before .before .pre) (c .before .before .before .choose .ensures) _ (c .block-bits .ensures)
+
+take-over-requires : tie.Need-take-over-requires
+take-over-requires c κs = over-ask (planned (c .before .before .before .before .before .before .before .before .pre) (c .before .before .before .before .before .choose .ensures) _ (c .before .before .block-bits .ensures) (c .before .plan-rows .ensures))
+
+leaves-of-requires : tie.Need-leaves-of-requires
+leaves-of-requires c κs = all-inside (c .before .before .before .before .before .before .before .before .before .before .pre) (planned (c .before .before .before .before .before .before .before .before .before .before .pre) (c .before .before .before .before .before .before .before .choose .ensures) _ (c .before .before .before .before .block-bits .ensures) (c .before .before .before .plan-rows .ensures)) (c .before .take-over .ensures)
+
+walkers-of-requires : tie.Need-walkers-of-requires
+walkers-of-requires c κs = omega (arith, draws-small (c .before .before .before .before .before .before .before .before .before .before .before .pre) .2)
+
+dimensions-requires : tie.Need-dimensions-requires
+dimensions-requires c κs = omega (arith, draws-small (c .before .before .before .before .before .before .before .before .before .before .before .before .pre) .0)
+
+plan-rows-requires-2 : tie.Need-plan-rows-requires-2
+plan-rows-requires-2 c κs = head-ask (c .before .before .before .before .before .before .before .before .before .before .before .before .before .pre) (planned (c .before .before .before .before .before .before .before .before .before .before .before .before .before .pre) (c .before .before .before .before .before .before .before .before .before .before .choose .ensures) _ (c .before .before .before .before .before .before .before .block-bits .ensures) (c .before .before .before .before .before .before .plan-rows .ensures)) (c .before .before .before .before .take-over .ensures) (c .before .before .leaves-of .ensures) (c .before .walkers-of .ensures) _ (c .dimensions .ensures)
+
+write-paths-requires : tie.Need-write-paths-requires
+write-paths-requires c κs = writes (c .before .before .before .before .before .before .before .before .before .before .before .before .before .before .before .before .before .before .pre) (held (c .before .before .before .before .before .before .before .before .before .before .before .before .before .before .before .before .before .before .pre) (planned (c .before .before .before .before .before .before .before .before .before .before .before .before .before .before .before .before .before .before .pre) (c .before .before .before .before .before .before .before .before .before .before .before .before .before .before .before .choose .ensures) _ (c .before .before .before .before .before .before .before .before .before .before .before .before .block-bits .ensures) (c .before .before .before .before .before .before .before .before .before .before .before .plan-rows .ensures)) (c .before .before .before .before .before .before .before .before .before .take-over .ensures) (c .before .before .before .before .before .before .before .leaves-of .ensures) (c .before .before .before .before .before .before .walkers-of .ensures) _ (c .before .before .before .before .before .dimensions .ensures) (c .before .before .before .before .plan-rows2 .ensures))
+
+same-length : tie.Need-same-length
+same-length c = c .before .before .before .before .write-paths .ensures .long
+
+same-length-2 : tie.Need-same-length-2
+same-length-2 c = c .before .before .before .before .write-paths .ensures .long-counts
+
+returns : tie.Need-returns
+returns c = painted (held (c .before .before .before .before .before .before .before .before .before .before .before .before .before .before .before .before .before .before .before .before .before .before .before .pre) (planned (c .before .before .before .before .before .before .before .before .before .before .before .before .before .before .before .before .before .before .before .before .before .before .before .pre) (c .before .before .before .before .before .before .before .before .before .before .before .before .before .before .before .before .before .before .before .before .choose .ensures) _ (c .before .before .before .before .before .before .before .before .before .before .before .before .before .before .before .before .before .block-bits .ensures) (c .before .before .before .before .before .before .before .before .before .before .before .before .before .before .before .before .plan-rows .ensures)) (c .before .before .before .before .before .before .before .before .before .before .before .before .before .before .take-over .ensures) (c .before .before .before .before .before .before .before .before .before .before .before .before .leaves-of .ensures) (c .before .before .before .before .before .before .before .before .before .before .before .walkers-of .ensures) _ (c .before .before .before .before .before .before .before .before .before .before .dimensions .ensures) (c .before .before .before .before .before .before .before .before .before .plan-rows2 .ensures)) (c .before .before .before .before .write-paths .ensures)
+
+pub draw-spec : {M : Type 1} → statement M
+draw-spec =
+    tie.close
+    (tie.spec
+    choose-requires
+    block-bits-requires
+    plan-rows-requires
+    take-over-requires
+    leaves-of-requires
+    walkers-of-requires
+    dimensions-requires
+    plan-rows-requires-2
+    write-paths-requires
+    same-length
+    same-length-2
+    returns)

@@ -1,0 +1,76 @@
+-- A sound request, by one of the three ways: the ring of order 1, the round trip, the general plan. Assumes nothing.
+use Prim.Native.Nat.{ℕ, _+_, _*_, _/_, _^_, _≤_, _<_}
+use mathlib.Core.Path.{_≡_, refl, sym, ap, _∙_, subst}
+use mathlib.Core.Bool.{Bool, true, false}
+use mathlib.Core.Logic.{_⊎_, inl, inr, _≢_}
+use mathlib.Core.List.{List}
+use native.Mathlib.Omega.{arith}
+use lib.ListN.{length, getD}
+use Rattle.paths.specs.Mesh.{Mesh, width}
+use Rattle.requests.specs.Sound.{Sound}
+use Rattle.two.specs.Two.{two}
+use Rattle.two_write.specs.Rows.{Ready, Drawn}
+use Rattle.two_round.specs.Trip.{Trip}
+use Rattle.two_draw.specs.General.{General}
+use Rattle.two_plan.specs.Home.{Filling, Home}
+
+-- a sound request, and room for its paths
+pub record Asked (m s w : ℕ) (targets places counts : List ℕ) : Type 0 where
+  pub low : 1 ≤ m
+  pub high : m ≤ 5
+  pub wide : w ≡ width (two m)
+  pub sound : Sound (two m .relays) (two m .links) s targets
+  pub room : length targets * w ≤ length places
+  pub room-counts : length targets ≤ length counts
+
+module _ {m s w : ℕ} {targets places counts places₁ : List ℕ} (a : Asked m s w targets places counts) (n : ℕ) (en : n ≡ length targets * w) (f : Filling n places places₁ n) where
+  pub ready : Ready (two m) s targets places₁ counts
+  ready = record {
+    sound = a .sound;
+    room = subst (λ (y : ℕ). length targets * y ≤ length places₁) (a .wide) (omega (arith, f .long, a .room));
+    room-counts = a .room-counts;
+    filled = λ x h. f .filled x (subst (λ (y : ℕ). x < y) (sym en) (subst (λ (y : ℕ). x < length targets * y) (sym (a .wide)) h));
+  }
+
+  -- what lay beyond before the places were filled lies there still
+  pub drawn-from : {places₂ counts₂ : List ℕ} → Drawn (two m) s targets places₁ counts places₂ counts₂ → Drawn (two m) s targets places counts places₂ counts₂
+  drawn-from d = record {
+    paths = d .paths;
+    fan = d .fan;
+    laid = d .laid;
+    rest = λ x h. d .rest x h ∙ f .rest x (subst (λ (y : ℕ). y ≤ x) (sym en) (subst (λ (y : ℕ). length targets * y ≤ x) (sym (a .wide)) h));
+    kept = d .kept;
+  }
+
+  pub ring-ready : m ≡ 1 → Ready (two 1) s targets places₁ counts
+  ring-ready e = subst (λ (y : ℕ). Ready (two y) s targets places₁ counts) e ready
+
+  pub ring-drawn : m ≡ 1 → {places₂ counts₂ : List ℕ} → Drawn (two 1) s targets places₁ counts places₂ counts₂ → Drawn (two m) s targets places counts places₂ counts₂
+  ring-drawn e {places₂} {counts₂} d = drawn-from (subst (λ (y : ℕ). Drawn (two y) s targets places₁ counts places₂ counts₂) (sym e) d)
+
+  module _ (ne : m ≢ 1) where
+    low₂ : 2 ≤ m
+    low₂ = omega (arith, a .low)
+
+    pub trip : (size : ℕ) → size ≡ 2 ^ m → length targets ≡ m + 1 → Home size s targets true → Trip m s w targets places₁ counts
+    trip size e all h = record {
+      low = low₂;
+      high = a .high;
+      all = all;
+      home = λ j l. subst (λ (y : ℕ). getD targets j 0 / y ≡ s / y) e (h .all refl j l);
+      wide = a .wide;
+      ready = ready;
+    }
+
+    pub some-out : (size : ℕ) → size ≡ 2 ^ m → Home size s targets false → General m s w targets places₁ counts
+    some-out size e h =
+        let x = h .some refl in record {
+          low = low₂;
+          high = a .high;
+          wide = a .wide;
+          ready = ready;
+          some = inr (x .0, x .1, subst (λ (y : ℕ). getD targets (x .0) 0 / y ≢ s / y) e (x .2));
+        }
+
+    pub few : length targets ≢ m + 1 → General m s w targets places₁ counts
+    few z = record { low = low₂; high = a .high; wide = a .wide; ready = ready; some = inl (omega (arith, a .sound .few)) }

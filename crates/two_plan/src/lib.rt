@@ -1,0 +1,65 @@
+// The planner of the two-level mesh: paths from a relay to others that meet nowhere but in it.
+ghost use mathlib.Core.Path.{_≡_};
+ghost use mathlib.Core.Bool.{Bool, true, false};
+ghost use Prim.Native.Nat.{ℕ, _+_, _*_, _/_, _<_, _≤_};
+ghost use lib.ListN.{length, getD};
+ghost use Rattle.two.specs.Two.{two};
+ghost use Rattle.two_write.specs.Rows.{Drawn};
+ghost use Rattle.two_plan.specs.Home.{Filling, Home};
+ghost use Rattle.two_plan.specs.Sound.{Asked};
+use paths::FILLER;
+
+// Fills the first n places.
+fn fill(n: usize, places: &mut [u64])
+    requires { ⌜ n ≤ length (now places) ⌝ }
+    ensures { λ _. ⌜ Filling n (now (places .entry)) (now (places .exit)) n ⌝ }
+{
+    let mut i: usize = 0;
+    while i < n {
+        places[i] = FILLER;
+        i += 1;
+    }
+}
+
+// Whether all targets stand in the source's block, where a block has `size` slots.
+fn all_home(size: u64, source: u64, targets: &[u64]) -> bool
+    requires { ⌜ 0 < size ⌝ }
+    ensures { λ r. ⌜ Home size source (now (targets .entry)) r ⌝ }
+{
+    let mut i: usize = 0;
+    while i < targets.len() {
+        if targets[i] / size != source / size {
+            return false;
+        }
+        i += 1;
+    }
+    true
+}
+
+// Plans a sound request, where there is room.
+fn lay(
+    m: u32,
+    source: u64,
+    targets: &[u64],
+    w: usize,
+    places: &mut [u64],
+    counts: &mut [u64],
+)
+    requires { ⌜ Asked m source w (now targets) (now places) (now counts) ⌝ }
+    ensures { λ _. ⌜ Drawn (two m) source (now (targets .entry)) (now (places .entry)) (now (counts .entry)) (now (places .exit)) (now (counts .exit)) ⌝ }
+{
+    fill(targets.len() * w, places);
+    if m == 1 {
+        two_ring::plan(source, targets, places, counts);
+        return;
+    }
+    if targets.len() == m as usize + 1 {
+        if all_home(grid::pow(m), source, targets) {
+            two_round::plan(m, source, targets, w, places, counts);
+            return;
+        }
+        two_draw::general(m, source, targets, w, places, counts);
+        return;
+    }
+    two_draw::general(m, source, targets, w, places, counts);
+}

@@ -1,0 +1,3 @@
+-- The ring of eight relays.
+pub mod Way
+pub mod Sides

@@ -1,0 +1,6 @@
+-- The round trip.
+pub mod Around
+pub mod Found
+pub mod Trip
+pub mod Paths
+pub mod Going

@@ -1,0 +1,2 @@
+-- A cube fan in the rows of a grid.
+pub mod Rows

@@ -1,0 +1,80 @@
+-- `two_write::write_slots` meets its contract: the invariant is `Slotting`. Assumes nothing.
+use Prim.Native.Nat.{_-_}
+use native.Mathlib.Omega.{arith}
+use mathlib.Core.Path.{refl}
+use Rattle.two_write.specs.Blocks.{base-fits}
+use Rattle.two_write.specs.Slots.{Slotting, slotting-none, slotting-more, slotting-done}
+use borrow.Author.Needs.{needs}
+use Rattle.two_write.proofs.write_slots.Statement.{statement}
+use Rattle.two_write.proofs.write_slots.Tie as tie
+
+abbrev Inv-loop : tie.InvT-loop
+Inv-loop m b n at out₀ slots first i₀ out i = Slotting first slots n at out₀ out i
+
+abbrev μ-loop : tie.MeasureT-loop
+μ-loop m b n at out₀ slots first i₀ out i = n - i
+
+base-requires : tie.Need-base-requires Inv-loop μ-loop
+base-requires c κs = search needs
+
+loop-holds : tie.Need-loop-holds Inv-loop μ-loop
+loop-holds c = slotting-none _ _ _ _ _ (omega arith)
+
+mul-out : tie.Need-mul-out Inv-loop μ-loop
+mul-out c = search needs
+
+array-read-out : tie.Need-array-read-out Inv-loop μ-loop
+array-read-out c = search needs
+
+add-out : tie.Need-add-out Inv-loop μ-loop
+add-out c =
+    let s = c .before .before .before .before in
+    omega (arith, base-fits (s .pre .0) (s .pre .1), c .before .before .base .ensures, s .pre .3 (c .before .loop .i) (c .loop-test .taken))
+
+add-out-2 : tie.Need-add-out-2 Inv-loop μ-loop
+add-out-2 c = search needs
+
+mul-out-2 : tie.Need-mul-out-2 Inv-loop μ-loop
+mul-out-2 c = search needs
+
+slice-write-out : tie.Need-slice-write-out Inv-loop μ-loop
+slice-write-out c = search needs
+
+add-i : tie.Need-add-i Inv-loop μ-loop
+add-i c = search needs
+
+loop-less : tie.Need-loop-less Inv-loop μ-loop
+loop-less c = search needs
+
+loop-again : tie.Need-loop-again Inv-loop μ-loop
+loop-again c = slotting-more _ (c .before .loop .inv) (c .loop-test .taken) refl
+
+add-result : tie.Need-add-result Inv-loop μ-loop
+add-result c = search needs
+
+same-length : tie.Need-same-length Inv-loop μ-loop
+same-length c = c .before .loop .inv .long
+
+returns : tie.Need-returns Inv-loop μ-loop
+returns c = slotting-done _ _ (c .before .before .base .ensures) (c .before .loop .inv) (c .loop-test .left)
+
+pub write-slots-spec : {M : Type 1} → statement M
+write-slots-spec =
+    tie.close
+    (tie.spec
+    Inv-loop
+    μ-loop
+    base-requires
+    loop-holds
+    mul-out
+    array-read-out
+    add-out
+    add-out-2
+    mul-out-2
+    slice-write-out
+    add-i
+    loop-less
+    loop-again
+    add-result
+    same-length
+    returns)
