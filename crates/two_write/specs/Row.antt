@@ -4,6 +4,7 @@ use mathlib.Core.Path.{_≡_, sym, ap, _∙_}
 use mathlib.Core.List.{List}
 use native.Mathlib.Omega.{arith}
 use lib.ListN.{length, getD}
+use Rattle.paths.specs.Lists.{ahead-at}
 use Rattle.grid.specs.Grid as grid
 
 -- the path of row j
@@ -19,4 +20,4 @@ unfolding grid.hops
 hop-is g j i few h =
     let len = hops-length g j in
     let place : j * 35 + (35 - getD g (j * 35) 0) + i ≡ j * 35 + 35 - min 35 (getD g (j * 35) 0) + i = omega arith in
-    ap (λ (y : ℕ). getD g y 0) place ∙ sym (grid.ahead-at g (j * 35 + 35 - min 35 (getD g (j * 35) 0)) (min 35 (getD g (j * 35) 0)) 0 i (omega arith))
+    ap (λ (y : ℕ). getD g y 0) place ∙ sym (ahead-at g (j * 35 + 35 - min 35 (getD g (j * 35) 0)) (min 35 (getD g (j * 35) 0)) 0 i (omega arith))
