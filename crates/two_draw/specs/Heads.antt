@@ -47,7 +47,7 @@ body-of m s0 leave end last₁ zero (x ∷ r) some stays goes first a b = (s0, [
 body-of m s0 leave end last₁ (suc i) [] some stays goes first a b = absurd (omega arith)
 body-of m s0 leave end last₁ (suc i) (x ∷ r) some stays goes first a b =
     let t = through m s0 leave (last s0 (take (suc i) (x ∷ r))) last₁ (take (suc i) (x ∷ r)) (walk-take (2 ^ (2 ^ m) - 1) s0 end (suc i) (x ∷ r) (goes (omega arith))) a b x (take i r) refl
-        (first (omega arith)) in
+    (first (omega arith)) in
     (last s0 (take (suc i) (x ∷ r)), t .0, t .1)
 
 module _ {m s0 p0 k : ℕ} {blocks slots : List ℕ} {c : Choice} {o : taken.Taken} {g : List ℕ} {j leave row n last₁ len : ℕ} {tail : List ℕ}

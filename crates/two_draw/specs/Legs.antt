@@ -203,7 +203,7 @@ module _ {m s0 p0 k : ℕ} {blocks slots : List ℕ} {c : Choice} {o : taken.Tak
           last-in = slot-in;
           stays = λ z. absurd (some-hops z);
           few = omega arith;
-      whole = omega arith;
+          whole = omega arith;
           below = λ i h. absurd (omega arith);
           role = λ d body k. inr (inl (record {
             ungated = b;
@@ -231,7 +231,7 @@ module _ {m s0 p0 k : ℕ} {blocks slots : List ℕ} {c : Choice} {o : taken.Tak
           last-in = s .planned .chose .below j;
           stays = λ z. absurd (some-hops z);
           few = omega (arith, gate-few t);
-        whole = omega (arith, gate-few t, t .long);
+          whole = omega (arith, gate-few t, t .long);
           below = gate-below m (s .planned .chose .below j) slot-in t;
           role = λ d body k. inr (inr (
             b,

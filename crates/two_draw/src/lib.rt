@@ -285,7 +285,20 @@ fn put_path(
     let leg = leg_of(slots, c, o, grid, j);
     let leave = leaves[i];
     let walks = leave != p0 as u64;
-    write_path(m, s0, blocks[i], source, heads, i, walks, leave as u32, leg, grid, at, out)
+    write_path(
+        m,
+        s0,
+        blocks[i],
+        source,
+        heads,
+        i,
+        walks,
+        leave as u32,
+        leg,
+        grid,
+        at,
+        out,
+    )
 }
 
 // Writes the paths of all k targets, w places each, and their hops.
@@ -312,7 +325,22 @@ fn write_paths(
     let mut j: u32 = 0;
     while j < k {
         let i = j as usize;
-        let h = put_path(m, s0, p0, source, blocks, slots, c, o, leaves, heads, grid, j, i * w, places);
+        let h = put_path(
+            m,
+            s0,
+            p0,
+            source,
+            blocks,
+            slots,
+            c,
+            o,
+            leaves,
+            heads,
+            grid,
+            j,
+            i * w,
+            places,
+        );
         counts[i] = h;
         j += 1;
     }
@@ -358,7 +386,23 @@ fn draw(
     let leaves = leaves_of(s0, p0, slots, c, o, k, &ways);
     let walkers = walkers_of(leaves, p0, k);
     let heads = two_rows::plan_rows(dimensions(m), p0 as u64, 0, walkers, leaves);
-    write_paths(m, s0, p0, source, k, w, blocks, slots, c, o, leaves, &heads, &ways, places, counts);
+    write_paths(
+        m,
+        s0,
+        p0,
+        source,
+        k,
+        w,
+        blocks,
+        slots,
+        c,
+        o,
+        leaves,
+        &heads,
+        &ways,
+        places,
+        counts,
+    );
 }
 
 // Plans a request of order 2 to 5: fewer targets than links, or one of them outside the source's block.
@@ -378,5 +422,16 @@ pub fn general(
     let slots = slots_of(size, targets);
     let p0 = (source % size) as u32;
     let k = targets.len() as u32;
-    draw(m, source / size, p0, source, k, w, blocks, slots, places, counts);
+    draw(
+        m,
+        source / size,
+        p0,
+        source,
+        k,
+        w,
+        blocks,
+        slots,
+        places,
+        counts,
+    );
 }

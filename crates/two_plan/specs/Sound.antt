@@ -6,6 +6,7 @@ use mathlib.Core.Logic.{_⊎_, inl, inr, _≢_}
 use mathlib.Core.List.{List}
 use native.Mathlib.Omega.{arith}
 use lib.ListN.{length, getD}
+use lib.Pow.{pow-pos}
 use Rattle.paths.specs.Mesh.{Mesh, width}
 use Rattle.requests.specs.Sound.{Sound}
 use Rattle.two.specs.Two.{two}
@@ -74,3 +75,14 @@ module _ {m s w : ℕ} {targets places counts places₁ : List ℕ} (a : Asked m
 
     pub few : length targets ≢ m + 1 → General m s w targets places₁ counts
     few z = record { low = low₂; high = a .high; wide = a .wide; ready = ready; some = inl (omega (arith, a .sound .few)) }
+
+-- ---- by the answer
+
+pub home-yes : {size s : ℕ} {targets : List ℕ} {b : Bool} → b ≡ true → Home size s targets b → Home size s targets true
+home-yes {size} {s} {targets} e h = subst (Home size s targets) e h
+
+pub home-no : {size s : ℕ} {targets : List ℕ} {b : Bool} → b ≡ false → Home size s targets b → Home size s targets false
+home-no {size} {s} {targets} e h = subst (Home size s targets) e h
+
+pub home-size : (m size : ℕ) → size ≡ 2 ^ m → 0 < size
+home-size m size e = omega (arith, e, pow-pos m)

@@ -37,14 +37,7 @@ fn all_home(size: u64, source: u64, targets: &[u64]) -> bool
 }
 
 // Plans a sound request, where there is room.
-fn lay(
-    m: u32,
-    source: u64,
-    targets: &[u64],
-    w: usize,
-    places: &mut [u64],
-    counts: &mut [u64],
-)
+fn lay(m: u32, source: u64, targets: &[u64], w: usize, places: &mut [u64], counts: &mut [u64])
     requires { ⌜ Asked m source w (now targets) (now places) (now counts) ⌝ }
     ensures { λ _. ⌜ Drawn (two m) source (now (targets .entry)) (now (places .entry)) (now (counts .entry)) (now (places .exit)) (now (counts .exit)) ⌝ }
 {

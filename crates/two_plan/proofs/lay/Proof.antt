@@ -1,98 +1,75 @@
+-- `two_plan::lay` meets its contract: one of three ways, over filled places. Assumes nothing.
+use mathlib.Core.Path.{_≡_, refl, subst, sym, _∙_}
+use native.Mathlib.Omega.{arith}
+use Rattle.bits.specs.Laws.{lt-or-le}
+use Rattle.two_plan.specs.Home.{Home}
+use Rattle.two_plan.specs.Sound.{ready, drawn-from, ring-ready, ring-drawn, trip, some-out, few, home-yes, home-no, home-size}
 use borrow.Author.Needs.{needs}
 use Rattle.two_plan.proofs.lay.Statement.{statement}
 use Rattle.two_plan.proofs.lay.Tie as tie
-use Rattle.two_plan.proofs.lay.Reads as reads
-use Rattle.two_plan.proofs.lay.Lts as lts
-use Rattle.grid.proofs.pow.Reads as pow-reads
-use Rattle.two_draw.proofs.general.Reads as general-reads
-use Rattle.two_plan.proofs.all_home.Reads as all-home-reads
-use Rattle.two_plan.proofs.fill.Reads as fill-reads
-use Rattle.two_ring.proofs.plan.Reads as plan-reads
-use Rattle.two_round.proofs.plan.Reads as plan-reads′
 
--- src/lib.rt:51:10
 mul-fill : tie.Need-mul-fill
-mul-fill c = search needs
+mul-fill c = omega (arith, c .before .before .before .pre .room)
 
--- src/lib.rt:51:5
 fill-requires : tie.Need-fill-requires
-fill-requires c κs = search needs
+fill-requires c κs = c .before .before .before .before .pre .room
 
--- src/lib.rt:53:9
 plan-requires : tie.Need-plan-requires
-plan-requires c κs = search needs
+plan-requires c κs = ring-ready (c .before .before .before .before .before .before .before .before .before .before .pre) _ refl (c .before .before .before .before .before .fill .ensures) (c .before .before .if1 .taken)
 
--- src/lib.rt:54:9
 same-length : tie.Need-same-length
 same-length c = search needs
 
--- src/lib.rt:54:9
 same-length-2 : tie.Need-same-length-2
 same-length-2 c = search needs
 
--- src/lib.rt:54:9
 returns : tie.Need-returns
-returns c = ?
+returns c = ring-drawn (c .before .before .before .before .before .before .before .before .before .before .before .before .before .before .before .pre) _ refl (c .before .before .before .before .before .before .before .before .before .before .fill .ensures) (c .before .before .before .before .before .before .before .if1 .taken) (c .before .before .before .before .plan .ensures)
 
--- src/lib.rt:56:25
 add-if2 : tie.Need-add-if2
-add-if2 c = search needs
+add-if2 c = omega (arith, c .before .before .before .before .before .before .before .before .pre .high)
 
--- src/lib.rt:57:21
 pow-requires : tie.Need-pow-requires
-pow-requires c κs = search needs
+pow-requires c κs = omega (arith, c .before .before .before .before .before .before .before .before .before .pre .high)
 
--- src/lib.rt:57:12
 all-home-requires : tie.Need-all-home-requires
-all-home-requires c κs = search needs
+all-home-requires c κs = home-size _ _ (c .pow .ensures)
 
--- src/lib.rt:58:13
 plan-requires-2 : tie.Need-plan-requires-2
-plan-requires-2 c κs = search needs
+plan-requires-2 c κs = trip (c .before .before .before .before .before .before .before .before .before .before .before .before .before .before .pre) _ refl (c .before .before .before .before .before .before .before .before .before .fill .ensures) (c .before .before .before .before .before .before .if1 .left) _ (c .before .before .before .before .pow .ensures) (c .before .before .before .before .before .if2 .taken) (home-yes (c .before .before .if3 .taken) (c .before .before .before .all-home .ensures))
 
--- src/lib.rt:59:13
 same-length-3 : tie.Need-same-length-3
 same-length-3 c = search needs
 
--- src/lib.rt:59:13
 same-length-4 : tie.Need-same-length-4
 same-length-4 c = search needs
 
--- src/lib.rt:59:13
 returns-2 : tie.Need-returns-2
-returns-2 c = ?
+returns-2 c = drawn-from (c .before .before .before .before .before .before .before .before .before .before .before .before .before .before .before .before .before .before .before .pre) _ refl (c .before .before .before .before .before .before .before .before .before .before .before .before .before .before .fill .ensures) (c .before .before .before .before .plan2 .ensures)
 
--- src/lib.rt:61:9
 general-requires : tie.Need-general-requires
-general-requires c κs = search needs
+general-requires c κs = some-out (c .before .before .before .before .before .before .before .before .before .before .before .before .before .before .pre) _ refl (c .before .before .before .before .before .before .before .before .before .fill .ensures) (c .before .before .before .before .before .before .if1 .left) _ (c .before .before .before .before .pow .ensures) (home-no (c .before .before .if3 .left) (c .before .before .before .all-home .ensures))
 
--- src/lib.rt:62:9
 same-length-5 : tie.Need-same-length-5
 same-length-5 c = search needs
 
--- src/lib.rt:62:9
 same-length-6 : tie.Need-same-length-6
 same-length-6 c = search needs
 
--- src/lib.rt:62:9
 returns-3 : tie.Need-returns-3
-returns-3 c = ?
+returns-3 c = drawn-from (c .before .before .before .before .before .before .before .before .before .before .before .before .before .before .before .before .before .before .before .pre) _ refl (c .before .before .before .before .before .before .before .before .before .before .before .before .before .before .fill .ensures) (c .before .before .before .before .general .ensures)
 
--- src/lib.rt:64:5
 general-requires-2 : tie.Need-general-requires-2
-general-requires-2 c κs = search needs
+general-requires-2 c κs = few (c .before .before .before .before .before .before .before .before .before .before .before .pre) _ refl (c .before .before .before .before .before .before .fill .ensures) (c .before .before .before .if1 .left) (c .before .before .if2 .left)
 
--- src/lib.rt:40:1
 same-length-7 : tie.Need-same-length-7
 same-length-7 c = search needs
 
--- src/lib.rt:40:1
 same-length-8 : tie.Need-same-length-8
 same-length-8 c = search needs
 
--- src/lib.rt:40:1
 returns-4 : tie.Need-returns-4
-returns-4 c = ?
+returns-4 c = drawn-from (c .before .before .before .before .before .before .before .before .before .before .before .before .before .before .before .before .pre) _ refl (c .before .before .before .before .before .before .before .before .before .before .before .fill .ensures) (c .before .before .before .before .general2 .ensures)
 
 pub lay-spec : {M : Type 1} → statement M
 lay-spec =
