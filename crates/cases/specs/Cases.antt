@@ -11,6 +11,7 @@ use Rattle.cube.specs.Route as cube
 use Rattle.cube.specs.Says.{routeTold, routeLeaves}
 use Rattle.two.specs.Cases.{CaseA, CaseB, CaseD, CaseE, case-a, case-b, case-d, case-e}
 use Rattle.hops.specs.Cases.{CaseF, case-f}
+use Rattle.cube_fan.specs.Cases.{CaseG, case-g}
 
 -- a field for each case; a lent slice has one place more than its route
 pub record Cases : Type 0 where
@@ -26,7 +27,9 @@ pub record Cases : Type 0 where
   pub e : CaseE
   -- F: order 1, distances of 0 to 7 from 0: 0, 1, 1, 2, 3, 2, 4, 3
   pub f : CaseF
+  -- G: cube 2, from 0 to 3 and 1: 0, 2, 3 and 0, 1 is a fan, and the only one
+  pub g : CaseG
 
 pub cases : Cases
 unfolding cube.route cube.hops cube.next walk.hops walk.route walk.node seek flip trailingZeros
-cases = record { a = case-a; b = case-b; c-route = refl; c-told = refl; c-leaves = refl; d = case-d; e = case-e; f = case-f }
+cases = record { a = case-a; b = case-b; c-route = refl; c-told = refl; c-leaves = refl; d = case-d; e = case-e; f = case-f; g = case-g }
