@@ -1,2 +1,4 @@
 pub mod Home
 pub mod Sound
+pub mod Promise
+pub mod Steps

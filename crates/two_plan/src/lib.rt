@@ -7,7 +7,14 @@ ghost use Rattle.two.specs.Two.{two};
 ghost use Rattle.two_write.specs.Rows.{Drawn};
 ghost use Rattle.two_plan.specs.Home.{Filling, Home};
 ghost use Rattle.two_plan.specs.Sound.{Asked};
+ghost use Rattle.mesh.specs.Kinds.{twos};
+ghost use Rattle.mesh.specs.Says.{requestAgainst, short};
+ghost use Rattle.two_plan.specs.Promise.{Planned};
+use answers::Checked;
+use answers::Refusal;
+use mesh::Mesh;
 use paths::FILLER;
+use two::Order;
 
 // Fills the first n places.
 fn fill(n: usize, places: &mut [u64])
@@ -55,4 +62,31 @@ fn lay(m: u32, source: u64, targets: &[u64], w: usize, places: &mut [u64], count
         return;
     }
     two_draw::general(m, source, targets, w, places, counts);
+}
+
+// A fan in the two-level mesh from the source to the targets, in their order. Path i stands from the place i * W on, where W is `order.places()`, source
+// first and 2^64 - 1 in the places after its end; its hops stand in the counts at i. In `Order(1)`, from 0 to 5 and 1, it is 0, 2, 3, 7, 6, 4, 5
+// and 0, 1.
+pub fn plan(
+    order: Order,
+    source: u64,
+    targets: &[u64],
+    places: &mut [u64],
+    counts: &mut [u64],
+) -> Checked
+    ensures { λ r. ⌜ Planned (requestAgainst twos (order .0) source (now (targets .entry)) (short (two (order .0)) (length (now (targets .entry))) (length (now (places .entry))) (length (now (counts .entry))))) (two (order .0)) source (now (targets .entry)) (now (places .entry)) (now (counts .entry)) r (now (places .exit)) (now (counts .exit)) ⌝ }
+{
+    let mesh = Mesh {
+        kind: Mesh::TWO,
+        size: order.0,
+    };
+    let checked = mesh::request(mesh, source, targets);
+    if let Checked::Refused(why) = checked {
+        return Checked::Refused(why);
+    }
+    if mesh::short(mesh, targets.len(), places.len(), counts.len()) {
+        return Checked::Refused(Refusal::NoRoom);
+    }
+    lay(order.0 as u32, source, targets, mesh::places_in(mesh) as usize, places, counts);
+    Checked::Fine
 }
