@@ -87,6 +87,13 @@ pub fn plan(
     if mesh::short(mesh, targets.len(), places.len(), counts.len()) {
         return Checked::Refused(Refusal::NoRoom);
     }
-    lay(order.0 as u32, source, targets, mesh::places_in(mesh) as usize, places, counts);
+    lay(
+        order.0 as u32,
+        source,
+        targets,
+        mesh::places_in(mesh) as usize,
+        places,
+        counts,
+    );
     Checked::Fine
 }

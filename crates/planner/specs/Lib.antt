@@ -1,0 +1,2 @@
+-- What the planner over every kind promises.
+pub mod Kinds

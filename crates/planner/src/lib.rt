@@ -1,0 +1,31 @@
+// The planner over every kind of mesh: paths from a relay to others that meet nowhere but in it.
+ghost use lib.ListN.{length};
+ghost use Rattle.mesh.specs.Kinds.{kindOf, meshOf};
+ghost use Rattle.mesh.specs.Says.{requestAgainst, short};
+ghost use Rattle.two_plan.specs.Promise.{Planned};
+use answers::Checked;
+use answers::Refusal;
+use cube::Size;
+use mesh::Mesh;
+use two::Order;
+
+// A fan from the source to the targets, in their order. Path i stands from the place i * W on, where W is `mesh.places()`, source first and 2^64 - 1 in
+// the places after its end; its hops stand in the counts at i. In the cube of 2 dimensions, from 0 to 3 and 1, it is 0, 2, 3 and 0, 1: the places
+// then hold 0 2 3 F 0 1 F F, where F is 2^64 - 1, and the counts 2 1. Refuses with 1 to 8, and then changes nothing.
+pub fn plan(
+    mesh: Mesh,
+    source: u64,
+    targets: &[u64],
+    places: &mut [u64],
+    counts: &mut [u64],
+) -> Checked
+    ensures { λ r. ⌜ Planned (requestAgainst (kindOf (mesh .kind)) (mesh .size) source (now (targets .entry)) (short (meshOf (mesh .kind) (mesh .size)) (length (now (targets .entry))) (length (now (places .entry))) (length (now (counts .entry))))) (meshOf (mesh .kind) (mesh .size)) source (now (targets .entry)) (now (places .entry)) (now (counts .entry)) r (now (places .exit)) (now (counts .exit)) ⌝ }
+{
+    if mesh.kind == Mesh::CUBE {
+        return cube_fan::plan(Size(mesh.size), source, targets, places, counts);
+    }
+    if mesh.kind == Mesh::TWO {
+        return two_plan::plan(Order(mesh.size), source, targets, places, counts);
+    }
+    Checked::Refused(Refusal::UnknownSize)
+}
