@@ -1,2 +1,3 @@
 -- What the planner over every kind promises.
 pub mod Kinds
+pub mod Survive
