@@ -1,0 +1,3 @@
+-- Numbers as bytes, and the loops and calls that read and write them.
+pub mod Big
+pub mod Turns

@@ -1,0 +1,54 @@
+-- A number read byte by byte (`Reading`), and bytes written one after another (`sets-append`, `put-more`). Assumes nothing.
+use Prim.Native.Nat.{ℕ, zero, suc, _+_, _-_, _*_, _/_, _%_, _^_, _≤_, _<_}
+use mathlib.Core.Path.{_≡_, refl, sym, ap, ap₂, _∙_, subst}
+use mathlib.Core.List.{List, [], _∷_, _++_}
+use native.Mathlib.Nat.{pow-le-pow-right, pow-suc}
+use native.Mathlib.Numerals.{add-one}
+use native.Mathlib.Omega.{arith}
+use lib.ListN.{length, getD, set}
+use lib.Seq.{sets}
+use lib.Arith.{digits-lt}
+use Rattle.octets.specs.Big.{big, number, big-length, big-more, number-none, number-more}
+
+-- i bytes of w are read
+pub record Reading (l : List ℕ) (at w value i : ℕ) : Type 0 where
+  pub within : i ≤ w
+  pub is : value ≡ number l at i
+  pub below : value < 256 ^ i
+
+pub reading-starts : (l : List ℕ) (at w : ℕ) → Reading l at w 0 0
+reading-starts l at w = record { within = omega arith; is = sym (number-none l at); below = omega arith }
+
+-- there is room for one byte more
+pub reading-room : {l : List ℕ} {at w value i : ℕ} → Reading l at w value i → i < w → w ≤ 8 → value < 2 ^ 56
+reading-room {i = i} v h g =
+    let few : i ≤ 7 = omega arith in
+    let most : 256 ^ i ≤ 256 ^ 7 = pow-le-pow-right {n = 256} (omega arith) few in
+    omega (arith, v .below, most)
+
+pub reading-more : {l : List ℕ} {at w value i byte : ℕ} → Reading l at w value i → i < w → byte ≡ getD l (at + i) 0 → byte < 256 → Reading l at w (value * 256 + byte) (i + 1)
+reading-more {l} {at} {w} {value} {i} {byte} v h e b = record {
+  within = omega arith;
+  is = ap₂ (λ (x y : ℕ). x * 256 + y) (v .is) e ∙ sym (number-more l at i) ∙ ap (number l at) (sym (add-one i));
+  below = subst (λ (x : ℕ). value * 256 + byte < x) (sym (pow-suc 256 i) ∙ ap (λ (x : ℕ). 256 ^ x) (sym (add-one i))) (digits-lt (v .below) b);
+}
+
+pub reading-ends : {l : List ℕ} {at w value i : ℕ} → Reading l at w value i → w ≤ i → value ≡ number l at w
+reading-ends {l} {at} {w} {value} {i} v h = v .is ∙ ap (number l at) (omega (arith, v .within))
+
+-- ---- bytes written one after another
+
+pub sets-append : (a b l : List ℕ) (at : ℕ) → sets l at (a ++ b) ≡ sets (sets l at a) (at + length a) b
+sets-append [] b l at = ap (λ (i : ℕ). sets l i b) (omega arith)
+sets-append (x ∷ a) b l at = sets-append a b (set l at x) (suc at) ∙ ap (λ (i : ℕ). sets (sets (set l at x) (suc at) a) i b) (omega arith)
+
+-- the lowest byte after the others
+pub put-more : (w less value at : ℕ) (l : List ℕ) → less + 1 ≡ w → set (sets l at (big less (value / 256))) (at + less) (value % 256) ≡ sets l at (big w value)
+put-more w less value at l e =
+    sym (sets-append (big less (value / 256)) (value % 256 ∷ []) l at
+    ∙ ap (λ (i : ℕ). set (sets l at (big less (value / 256))) i (value % 256)) (ap (λ (i : ℕ). at + i) (big-length less (value / 256))))
+    ∙ ap (sets l at) (sym (big-more less value) ∙ ap (λ (i : ℕ). big i value) (sym (add-one less) ∙ e))
+
+pub put-none : (w value at : ℕ) (l : List ℕ) → w ≡ 0 → l ≡ sets l at (big w value)
+unfolding big
+put-none w value at l e = ap (λ (i : ℕ). sets l at (big i value)) (sym e)
