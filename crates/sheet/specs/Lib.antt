@@ -1,0 +1,3 @@
+-- Sheets: the format, and what the writer and the reader promise.
+pub mod Format
+pub mod Says

@@ -1,0 +1,70 @@
+// Sheets: a fan as bytes. docs/SHEETS.md has the format byte by byte.
+ghost use mathlib.Core.Path.{_≡_};
+ghost use Rattle.sheet.specs.Says as says;
+use mesh::Mesh;
+
+// Why a sheet is not written or not read.
+pub enum Flaw {
+    // 30: fewer than 16 bytes, a length field that is not that of the bytes after it, or a path that runs out of bytes.
+    Cut,
+    // 31: the version is not 1.
+    Version,
+    // 32: no such kind or size.
+    NoMesh,
+    // 33: no path, or more than a relay has links.
+    Paths,
+    // 8: a lent slice is too short.
+    NoRoom,
+    // 34: a path with no hops, or more than the longest has; its number, counted from 0.
+    Hops(usize),
+    // 35: the request or the paths fail the judge.
+    NotAFan,
+    // 36: bytes are left over.
+    LeftOver,
+}
+
+// How many bytes the sheet takes, or why there is none.
+pub enum Written {
+    Bytes(usize),
+    Refused(Flaw),
+}
+
+// The mesh, the source and how many paths, or why it is no sheet.
+pub enum Reading {
+    Fan(Mesh, u64, usize),
+    Refused(Flaw),
+}
+
+impl Flaw {
+    // The document's number: `Flaw::LeftOver.number()` is 36.
+    pub fn number(self) -> u64
+        ensures { λ r. ⌜ r ≡ says.flawNumber self ⌝ }
+    {
+        match self {
+            Flaw::Cut => 30,
+            Flaw::Version => 31,
+            Flaw::NoMesh => 32,
+            Flaw::Paths => 33,
+            Flaw::NoRoom => 8,
+            Flaw::Hops(_) => 34,
+            Flaw::NotAFan => 35,
+            Flaw::LeftOver => 36,
+        }
+    }
+
+    // The path that 34 tells, and 0 of all else.
+    pub fn path(self) -> usize
+        ensures { λ r. ⌜ r ≡ says.flawPath self ⌝ }
+    {
+        match self {
+            Flaw::Cut => 0,
+            Flaw::Version => 0,
+            Flaw::NoMesh => 0,
+            Flaw::Paths => 0,
+            Flaw::NoRoom => 0,
+            Flaw::Hops(i) => i,
+            Flaw::NotAFan => 0,
+            Flaw::LeftOver => 0,
+        }
+    }
+}
