@@ -1,3 +1,6 @@
 -- Sheets: the format, and what the writer and the reader promise.
 pub mod Format
 pub mod Says
+pub mod Total
+pub mod Putting
+pub mod Putted

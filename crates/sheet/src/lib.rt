@@ -1,4 +1,7 @@
 // Sheets: a fan as bytes. docs/SHEETS.md has the format byte by byte.
+mod put;
+
+pub use put::put_sheet;
 ghost use mathlib.Core.Path.{_≡_};
 ghost use Rattle.sheet.specs.Says as says;
 use mesh::Mesh;
