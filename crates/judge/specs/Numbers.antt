@@ -71,7 +71,11 @@ found-number f = eqb-false (numberOf (rule none (named f))) 0 (go f)
     go (SeenAgain i p) = refl
     go (NotFilled i p) = refl
 
+-- number 0: nothing stands against the request, and nothing is found
+pub rule-zero : (o : Option Refusal) (f : Finding) → Numbered f → numberOf (rule o f) ≡ 0 → (o ≡ none) × (f ≡ clean)
+rule-zero none clean h e = (refl, refl)
+rule-zero none (found n i p) h e = absurd (omega (arith, h n i p refl, e))
+rule-zero (some why) f h e = absurd (refused-number why e)
+
 pub rule-clean : (o : Option Refusal) (f : Finding) → Numbered f → ruling 0 0 0 ≡ rule o f → (o ≡ none) × (f ≡ clean)
-rule-clean none clean h e = (refl, refl)
-rule-clean none (found n i p) h e = absurd (omega (arith, h n i p refl, ap numberOf e))
-rule-clean (some why) f h e = absurd (refused-number why (sym (ap numberOf e)))
+rule-clean o f h e = rule-zero o f h (sym (ap numberOf e))

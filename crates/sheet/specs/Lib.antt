@@ -4,3 +4,4 @@ pub mod Says
 pub mod Total
 pub mod Putting
 pub mod Putted
+pub mod Writing

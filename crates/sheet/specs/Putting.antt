@@ -245,9 +245,19 @@ pub head-length : (kind size s k n : ℕ) → length (headBytes kind size s k n)
 unfolding headBytes
 head-length kind size s k n =
     length-append (big 4 (n + 12) ++ big 1 VERSION ++ big 1 kind ++ big 1 size ++ big 1 k) (big 8 s)
-    ∙ omega (arith, length-append (big 4 (n + 12) ++ big 1 VERSION ++ big 1 kind ++ big 1 size) (big 1 k), length-append (big 4 (n + 12) ++ big 1 VERSION ++ big 1 kind) (big 1 size),
-        length-append (big 4 (n + 12) ++ big 1 VERSION) (big 1 kind), length-append (big 4 (n + 12)) (big 1 VERSION),
-        big-length 4 (n + 12), big-length 1 VERSION, big-length 1 kind, big-length 1 size, big-length 1 k, big-length 8 s)
+    ∙ omega (
+      arith,
+      length-append (big 4 (n + 12) ++ big 1 VERSION ++ big 1 kind ++ big 1 size) (big 1 k),
+      length-append (big 4 (n + 12) ++ big 1 VERSION ++ big 1 kind) (big 1 size),
+      length-append (big 4 (n + 12) ++ big 1 VERSION) (big 1 kind),
+      length-append (big 4 (n + 12)) (big 1 VERSION),
+      big-length 4 (n + 12),
+      big-length 1 VERSION,
+      big-length 1 kind,
+      big-length 1 size,
+      big-length 1 k,
+      big-length 8 s,
+    )
 
 -- the sheet is its head and its paths
 module _ (kind size s : ℕ) (ps : List (List ℕ)) where
