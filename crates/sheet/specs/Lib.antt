@@ -5,3 +5,7 @@ pub mod Total
 pub mod Putting
 pub mod Putted
 pub mod Writing
+pub mod Taken
+pub mod Looking
+pub mod Running
+pub mod Taking
