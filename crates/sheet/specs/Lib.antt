@@ -9,3 +9,5 @@ pub mod Taken
 pub mod Looking
 pub mod Running
 pub mod Taking
+pub mod Bodied
+pub mod Heads

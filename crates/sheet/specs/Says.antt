@@ -108,6 +108,9 @@ cut l = pick (ltb (length l) HEAD) true (not (eqb (lengthAt l) (length l - 4)))
 abbrev pub badCount : (links k : ℕ) → Bool
 badCount links k = pick (eqb k 0) true (ltb links k)
 
+abbrev pub countAgainst : (links k : ℕ) → Option Flaw
+countAgainst links k = flawed (badCount links k) flaw.Paths none
+
 -- 34
 abbrev pub badHops : (longest hops : ℕ) → Bool
 badHops longest h = pick (eqb h 0) true (ltb longest h)
@@ -144,7 +147,7 @@ module _ (l : List ℕ) where
       flawed (cut l) flaw.Cut
       (flawed (not (eqb (versionAt l) VERSION)) flaw.Version
       (flawed (not (known (kindAt l) (sizeAt l))) flaw.NoMesh
-      (flawed (badCount (meshAt .links) (countAt l)) flaw.Paths none)))
+      (countAgainst (meshAt .links) (countAt l))))
 
   -- 35: the request or the paths fail the judge
   abbrev pub unjudged : Bool

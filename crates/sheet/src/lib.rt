@@ -1,4 +1,5 @@
 // Sheets: a fan as bytes. docs/SHEETS.md has the format byte by byte.
+mod body;
 mod put;
 mod take;
 
@@ -106,4 +107,23 @@ pub fn write(
         return Written::Refused(Flaw::NoRoom);
     }
     Written::Refused(Flaw::NotAFan)
+}
+
+// Reads one sheet, and fills the places with its paths, source first and 2^64 - 1 after the end of each, the counts with their hops and the targets with their
+// last relays; what lies beyond them stays. Gives the mesh, the source and how many paths. Path i begins at place i * W, where W is `mesh.places()`. Refuses, in
+// this order, with 30 (fewer than 16 bytes, or a wrong length field), 31, 32, 33, 8, path by path 30 (its two bytes of hops are missing), 34 and 30 (its
+// relays run out), then 36 and 35, and then changes nothing.
+pub fn read(
+    bytes: &[u8],
+    places: &mut [u64],
+    counts: &mut [u64],
+    targets: &mut [u64],
+) -> Reading
+    ensures { λ r. ⌜ says.Read (now (bytes .entry)) (now (places .entry)) (now (counts .entry)) (now (targets .entry)) r (now (places .exit)) (now (counts .exit)) (now (targets .exit)) ⌝ }
+{
+    let first = body::head(bytes);
+    match first {
+        Reading::Fan(mesh, source, k) => body::body(mesh, source, k, bytes, places, counts, targets),
+        Reading::Refused(f) => Reading::Refused(f),
+    }
 }
