@@ -45,7 +45,10 @@ pub fn head(bytes: &[u8]) -> Reading
     if bytes[4] != 1 {
         return Reading::Refused(Flaw::Version);
     }
-    let mesh = Mesh { kind: bytes[5] as u64, size: bytes[6] as u64 };
+    let mesh = Mesh {
+        kind: bytes[5] as u64,
+        size: bytes[6] as u64,
+    };
     if mesh.known() {
         return counted(mesh, octets::number(bytes, 8, 8), bytes[7] as usize);
     }

@@ -113,17 +113,20 @@ pub fn write(
 // last relays; what lies beyond them stays. Gives the mesh, the source and how many paths. Path i begins at place i * W, where W is `mesh.places()`. Refuses, in
 // this order, with 30 (fewer than 16 bytes, or a wrong length field), 31, 32, 33, 8, path by path 30 (its two bytes of hops are missing), 34 and 30 (its
 // relays run out), then 36 and 35, and then changes nothing.
-pub fn read(
-    bytes: &[u8],
-    places: &mut [u64],
-    counts: &mut [u64],
-    targets: &mut [u64],
-) -> Reading
+pub fn read(bytes: &[u8], places: &mut [u64], counts: &mut [u64], targets: &mut [u64]) -> Reading
     ensures { λ r. ⌜ says.Read (now (bytes .entry)) (now (places .entry)) (now (counts .entry)) (now (targets .entry)) r (now (places .exit)) (now (counts .exit)) (now (targets .exit)) ⌝ }
 {
     let first = body::head(bytes);
     match first {
-        Reading::Fan(mesh, source, k) => body::body(mesh, source, k, bytes, places, counts, targets),
+        Reading::Fan(mesh, source, k) => body::body(
+            mesh,
+            source,
+            k,
+            bytes,
+            places,
+            counts,
+            targets,
+        ),
         Reading::Refused(f) => Reading::Refused(f),
     }
 }

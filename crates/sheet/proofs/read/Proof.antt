@@ -1,3 +1,5 @@
+-- `sheet::read` meets its contract: what is wrong with the head, else what the body gives. Assumes nothing.
+use Rattle.sheet.specs.Bodied.{head-bodied, head-refused}
 use borrow.Author.Needs.{needs}
 use Rattle.sheet.proofs.read.Statement.{statement}
 use Rattle.sheet.proofs.read.Tie as tie
@@ -6,41 +8,32 @@ use Rattle.sheet.proofs.read.Lts as lts
 use Rattle.sheet.proofs.body.body.Reads as body-reads
 use Rattle.sheet.proofs.body.head.Reads as head-reads
 
--- src/lib.rt:124:9
 head-requires : tie.Need-head-requires
 head-requires c κs = search needs
 
--- src/lib.rt:126:22
 enum-known-first : tie.Need-enum-known-first
 enum-known-first c = search needs
 
--- src/lib.rt:126:42
 body-requires : tie.Need-body-requires
-body-requires c κs = search needs
+body-requires c κs = head-bodied (c .before .before .before .before .before .before .before .before .before .before .before .args .bytes .now) (c .before .before .before .before .first .given .1) (c .before .before .before .before .before .before .head .ensures)
 
--- src/lib.rt:127:26
 enum-known-first-2 : tie.Need-enum-known-first-2
 enum-known-first-2 c = search needs
 
--- src/lib.rt:116:1
 same-length : tie.Need-same-length
 same-length c = search needs
 
--- src/lib.rt:116:1
 same-length-2 : tie.Need-same-length-2
 same-length-2 c = search needs
 
--- src/lib.rt:116:1
 same-length-3 : tie.Need-same-length-3
 same-length-3 c = search needs
 
--- src/lib.rt:116:1
 returns : tie.Need-returns
-returns c = search needs
+returns c = c .before .before .before .before .before .before .body .ensures
 
--- src/lib.rt:116:1
 returns-2 : tie.Need-returns-2
-returns-2 c = ?
+returns-2 c = let a = c .before .before .before .before .before .before .before .before .args in head-refused (a .bytes .now) (a .places .now) (a .counts .now) (a .targets .now) (c .before .first2 .given .1) (c .before .before .before .head .ensures)
 
 pub read-spec : {M : Type 1} → statement M
 read-spec =

@@ -1,3 +1,7 @@
+-- `sheet::body::body` meets its contract: room, the paths one by one, the judge, and then they are taken. Assumes nothing.
+use mathlib.Core.Path.{refl, sym, ap, _∙_}
+use Rattle.sheet.specs.Taken.{lookedOf}
+use Rattle.sheet.specs.Bodied.{body-known, body-few, body-long, longest-is, body-small, body-short, body-flawed, body-judgeable, body-taken, body-not, body-fan}
 use borrow.Author.Needs.{needs}
 use Rattle.sheet.proofs.body.body.Statement.{statement}
 use Rattle.sheet.proofs.body.body.Tie as tie
@@ -9,64 +13,50 @@ use Rattle.sheet.proofs.take.judged.Reads as judged-reads
 use Rattle.sheet.proofs.take.look.Reads as look-reads
 use Rattle.sheet.proofs.take.take_paths.Reads as take-paths-reads
 
--- src/body.rt:79:8
 lacking-requires : tie.Need-lacking-requires
-lacking-requires c κs = search needs
+lacking-requires c κs = let s = c .before .before .before .before in (body-known (s .pre), body-few (s .pre))
 
--- src/body.rt:80:9
 returns : tie.Need-returns
-returns c = ?
+returns c = let s = c .before .before .before .before .before .before in let a = s .args in body-short (s .pre) (a .places .now) (a .counts .now) (a .targets .now) (c .before .lacking .ensures) (c .if1 .taken)
 
--- src/body.rt:82:19
 places-in-requires : tie.Need-places-in-requires
-places-in-requires c κs = search needs
+places-in-requires c κs = body-known (c .before .before .before .before .before .before .pre)
 
--- src/body.rt:82:19
 sub-longest : tie.Need-sub-longest
 sub-longest c = search needs
 
--- src/body.rt:83:9
 look-requires : tie.Need-look-requires
-look-requires c κs = search needs
+look-requires c κs = let s = c .before .before .before .before .before .before .before in let a = s .args in (body-long (s .pre), body-small (s .pre) (c .places-in .ensures))
 
--- src/body.rt:84:27
 enum-known-looked : tie.Need-enum-known-looked
 enum-known-looked c = search needs
 
--- src/body.rt:85:9
 returns-2 : tie.Need-returns-2
-returns-2 c = ?
+returns-2 c = let s = c .before .before .before .before .before .before .before .before .before .before .before in let a = s .args in body-flawed (s .pre) (a .places .now) (a .counts .now) (a .targets .now) (c .before .before .before .before .before .before .lacking .ensures) (c .before .before .before .before .before .if1 .left) (longest-is (s .pre) (c .before .before .before .before .places-in .ensures)) (sym (ap lookedOf (c .before .looked .given .1)) ∙ c .before .before .before .look .ensures)
 
 enum-told : tie.Need-enum-told
 enum-told c = search needs
 
--- src/body.rt:87:8
 judged-requires : tie.Need-judged-requires
-judged-requires c κs = search needs
+judged-requires c κs = let s = c .before .before .before .before .before .before .before .before .before .before in let a = s .args in body-judgeable (s .pre) (a .places .now) (a .counts .now) (a .targets .now) (c .before .before .before .before .before .lacking .ensures) (c .before .before .before .before .if1 .left) (longest-is (s .pre) (c .before .before .before .places-in .ensures)) (sym (ap lookedOf (c .enum-told .given .1)) ∙ c .before .before .look .ensures)
 
--- src/body.rt:88:9
 take-paths-requires : tie.Need-take-paths-requires
-take-paths-requires c κs = search needs
+take-paths-requires c κs = let s = c .before .before .before .before .before .before .before .before .before .before .before .before .before .before .before in let a = s .args in body-taken (s .pre) (a .places .now) (a .counts .now) (a .targets .now) (c .before .before .before .before .before .before .before .before .before .before .lacking .ensures) (c .before .before .before .before .before .before .before .before .before .if1 .left) (longest-is (s .pre) (c .before .before .before .before .before .before .before .before .places-in .ensures)) (sym (ap lookedOf (c .before .before .before .before .before .enum-told .given .1)) ∙ c .before .before .before .before .before .before .before .look .ensures)
 
--- src/body.rt:89:9
 same-length : tie.Need-same-length
 same-length c = search needs
 
--- src/body.rt:89:9
 same-length-2 : tie.Need-same-length-2
 same-length-2 c = search needs
 
--- src/body.rt:89:9
 same-length-3 : tie.Need-same-length-3
 same-length-3 c = search needs
 
--- src/body.rt:89:9
 returns-3 : tie.Need-returns-3
-returns-3 c = ?
+returns-3 c = let s = c .before .before .before .before .before .before .before .before .before .before .before .before .before .before .before .before .before .before .before .before .before .before in let a = s .args in body-fan (s .pre) (a .places .now) (a .counts .now) (a .targets .now) (c .before .before .before .before .before .before .before .before .before .before .before .before .before .before .before .before .before .lacking .ensures) (c .before .before .before .before .before .before .before .before .before .before .before .before .before .before .before .before .if1 .left) (longest-is (s .pre) (c .before .before .before .before .before .before .before .before .before .before .before .before .before .before .before .places-in .ensures)) (sym (ap lookedOf (c .before .before .before .before .before .before .before .before .before .before .before .before .enum-told .given .1)) ∙ c .before .before .before .before .before .before .before .before .before .before .before .before .before .before .look .ensures) refl refl (c .before .before .before .before .before .before .before .before .before .before .before .judged .ensures) (c .before .before .before .before .before .before .before .before .before .before .if2 .taken) (c .before .before .before .before .before .before .take-paths .ensures)
 
--- src/body.rt:67:1
 returns-4 : tie.Need-returns-4
-returns-4 c = ?
+returns-4 c = let s = c .before .before .before .before .before .before .before .before .before .before .before .before in let a = s .args in body-not (s .pre) (a .places .now) (a .counts .now) (a .targets .now) (c .before .before .before .before .before .before .before .lacking .ensures) (c .before .before .before .before .before .before .if1 .left) (longest-is (s .pre) (c .before .before .before .before .before .places-in .ensures)) (sym (ap lookedOf (c .before .before .enum-told .given .1)) ∙ c .before .before .before .before .look .ensures) (c .before .judged .ensures) (c .if2 .left)
 
 pub body-spec : {M : Type 1} → statement M
 body-spec =

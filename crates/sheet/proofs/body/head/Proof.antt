@@ -64,7 +64,7 @@ counted-requires c κs = sym (c .before .before .before .known .ensures) ∙ c .
 
 returns-4 : tie.Need-returns-4
 returns-4 c =
-    let l = c .before .before .before .before .before .before .before .before .before .before .before .before .before .args .bytes .now in 
+    let l = c .before .before .before .before .before .before .before .before .before .before .before .before .before .args .bytes .now in
     c .counted .ensures
     ∙ ap (λ (x : ℕ). tellRead (countAgainst (meshAt l .links) (countAt l)) (kindAt l) (sizeAt l) x (countAt l)) (c .before .before .number2 .ensures)
     ∙ ap (λ (o : Option Flaw). tellRead o (kindAt l) (sizeAt l) (sourceAt l) (countAt l)) (head-known l (c .before .before .before .before .before .before .before .before .before .before .before .if1 .left) (c .before .before .before .before .before .before .before .before .before .before .number .ensures) (c .before .before .before .before .before .before .before .before .before .if2 .left) (c .before .before .before .before .before .before .before .if3 .left) (c .before .before .before .before .known .ensures) (c .before .before .before .if4 .taken))
