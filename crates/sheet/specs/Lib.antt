@@ -1,3 +1,4 @@
 -- Sheets: the format, and what the writer and the reader promise.
 pub mod Format
 pub mod Says
+pub mod Cases
