@@ -2,3 +2,4 @@
 pub mod Format
 pub mod Says
 pub mod Cases
+pub mod Unique
