@@ -2,7 +2,6 @@
 use Prim.Native.Nat.{ℕ}
 use mathlib.Core.Path.{_≡_, refl}
 use mathlib.Core.List.{List, [], _∷_, _++_}
-use mathlib.Core.Option.{none}
 use lib.ListN.{replicate}
 use Rattle.octets.specs.Big.{big, number}
 use Rattle.sheet.specs.Format.{relaysBytes, pathBytes, pathsBytes, bodyOf, sheetOf, relaysAt, pathsAt}

@@ -3,3 +3,4 @@ pub mod Format
 pub mod Says
 pub mod Cases
 pub mod Unique
+pub mod Lent
