@@ -4,3 +4,5 @@ pub mod Says
 pub mod Cases
 pub mod Unique
 pub mod Lent
+pub mod Lengths
+pub mod There
