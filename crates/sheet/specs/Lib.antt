@@ -6,3 +6,4 @@ pub mod Unique
 pub mod Lent
 pub mod Lengths
 pub mod There
+pub mod Judging
