@@ -1,8 +1,8 @@
 -- What the judge has found where it tells 0 (`Judged`, `judged`, `judged-told`), and that it looks at no more than the paths asked for: slices
 -- that are the same so far are judged the same (`judged-same`). Assumes nothing.
-use Prim.Native.Nat.{ℕ, _+_, _*_, _^_, _≤_, _<_}
-use mathlib.Core.Path.{_≡_, refl, sym, ap, ap₂, _∙_, subst}
-use mathlib.Core.Bool.{Bool, true, false}
+use Prim.Native.Nat.{ℕ, _+_, _*_, _≤_, _<_}
+use mathlib.Core.Path.{_≡_, sym, ap, ap₂, _∙_, subst}
+use mathlib.Core.Bool.{Bool, false}
 use mathlib.Core.List.{List}
 use mathlib.Core.Option.{Option, none}
 use native.Mathlib.Omega.{arith}
@@ -10,10 +10,10 @@ use lib.ListN.{length, getD}
 use borrow.Author.Tests.{le-ltb}
 use Rattle.answers.specs.declared.Refusal.{Refusal}
 use Rattle.paths.specs.Mesh.{Mesh, width}
-use Rattle.paths.specs.Fan.{filler, relay, hops, Fan}
+use Rattle.paths.specs.Fan.{relay, hops, Fan}
 use Rattle.paths.specs.Finding.{Finding, finding}
 use Rattle.paths.specs.Judged.{clean-fan, fan-clean}
-use Rattle.paths.specs.Lists.{Laid, laid-fan, ahead-length}
+use Rattle.paths.specs.Lists.{laid-fan, ahead-length}
 use Rattle.paths.specs.Read.{read, fan-lists}
 use Rattle.mesh.specs.Kinds.{Kind}
 use Rattle.mesh.specs.Says.{requestAgainst, short}

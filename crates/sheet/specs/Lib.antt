@@ -7,3 +7,6 @@ pub mod Lent
 pub mod Lengths
 pub mod There
 pub mod Judging
+pub mod Accepted
+pub mod Fits
+pub mod Trips
