@@ -1,5 +1,5 @@
--- When nothing stands against reading a sheet (`Accepted`): the reader's tests in their order, as facts, there and back (`accepted`, `accepts`).
--- Assumes nothing.
+-- When nothing stands against reading a sheet (`Accepted`): the reader's tests in their order, as facts, there and back (`accepted`, `accepts`); and
+-- the writer's (`write-granted`, `write-grants`). Assumes nothing.
 use Prim.Native.Nat.{ℕ, _-_, _*_, _≤_}
 use mathlib.Core.Path.{_≡_, refl, ap, _∙_}
 use mathlib.Core.Bool.{Bool, true, false, not}
@@ -43,7 +43,7 @@ pub record Accepted (l : List ℕ) (places counts targets : ℕ) : Type 0 where
 no-flaw : {f : Flaw} {A : Type 0} → _≡_ {A = Option Flaw} (some f) none → A
 no-flaw e = let z : _≡_ {A = ℕ} 0 1 = cc in absurd (omega arith)
 
-flawed-none : (b : Bool) (f : Flaw) (rest : Option Flaw) → flawed b f rest ≡ none → (b ≡ false) × (rest ≡ none)
+pub flawed-none : (b : Bool) (f : Flaw) (rest : Option Flaw) → flawed b f rest ≡ none → (b ≡ false) × (rest ≡ none)
 flawed-none true f rest e = no-flaw e
 flawed-none false f rest e = (refl, e)
 
@@ -105,3 +105,20 @@ module _ (l : List ℕ) (places counts targets : ℕ) where
       (none-flawed flaw.NoRoom (neither (enough m k places counts (a .room) (a .room-counts)) (le-ltb targets k (a .room-targets)))
       (none-before (a .looks)
       (none-flawed flaw.NotAFan (ap not (eq-eqb _ 0 (a .is-fan))) refl)))
+
+-- ---- the writer
+
+-- what stands against writing so many bytes into room for so many, where the judge tells n
+abbrev pub writeFlaw : (n bytes room : ℕ) → Option Flaw
+writeFlaw n bytes room = pick (eqb n 0) (flawed (ltb room bytes) flaw.NoRoom none) (pick (eqb n 8) (some flaw.NoRoom) (some flaw.NotAFan))
+
+pub write-granted : (n bytes room : ℕ) → writeFlaw n bytes room ≡ none → (n ≡ 0) × (bytes ≤ room)
+write-granted n bytes room e = go (eqb n 0) (eqb n 8) refl e
+  where
+    go : (a b : Bool) → eqb n 0 ≡ a → pick a (flawed (ltb room bytes) flaw.NoRoom none) (pick b (some flaw.NoRoom) (some flaw.NotAFan)) ≡ none → (n ≡ 0) × (bytes ≤ room)
+    go true b f g = (eqb-true n 0 f, ltb-false room bytes (flawed-none (ltb room bytes) flaw.NoRoom none g .0))
+    go false true f g = no-flaw g
+    go false false f g = no-flaw g
+
+pub write-grants : (n bytes room : ℕ) → n ≡ 0 → bytes ≤ room → writeFlaw n bytes room ≡ none
+write-grants n bytes room e h = simp (eq-eqb n 0 e, le-ltb room bytes h)

@@ -8,5 +8,7 @@ pub mod Lengths
 pub mod There
 pub mod Judging
 pub mod Accepted
+pub mod Again
 pub mod Fits
-pub mod Trips
+pub mod TripsRead
+pub mod TripsWrite
