@@ -12,3 +12,4 @@ pub mod Again
 pub mod Fits
 pub mod TripsRead
 pub mod TripsWrite
+pub mod Trips

@@ -9,7 +9,6 @@ use native.Mathlib.Omega.{arith}
 use lib.ListN.{length, take}
 use lib.Seq.{getD-take, length-take-le}
 use Rattle.paths.specs.Mesh.{Mesh, width}
-use Rattle.paths.specs.Fan as fan
 use Rattle.mesh.specs.Kinds.{kindOf, meshOf, known}
 use Rattle.mesh.specs.Laws.{known-small, known-relays}
 use Rattle.mesh.specs.Requests.{Fine}

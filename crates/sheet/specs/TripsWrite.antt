@@ -16,7 +16,6 @@ use Rattle.sheet.specs.Lent.{Within, places-length, counts-length, targe
 use Rattle.sheet.specs.Judging.{judged, judged-told, judged-same}
 use Rattle.sheet.specs.Accepted.{Accepted, accepted, write-grants}
 use Rattle.sheet.specs.Again.{looked-within, sheet-again}
-use Rattle.sheet.specs.declared.Flaw.the-variants as flaw
 
 -- what is written of slices that hold what was read of l, and more after it
 pub record WritesBack (l more others out : List ℕ) : Type 0 where

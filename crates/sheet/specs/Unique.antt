@@ -39,7 +39,7 @@ flaw-back (flaw.Hops i) = refl
 flaw-back flaw.NotAFan = refl
 flaw-back flaw.LeftOver = refl
 
-flaw-some : (f : Flaw) → eqb (flawNumber f) 0 ≡ false
+pub flaw-some : (f : Flaw) → eqb (flawNumber f) 0 ≡ false
 flaw-some flaw.Cut = refl
 flaw-some flaw.Version = refl
 flaw-some flaw.NoMesh = refl
