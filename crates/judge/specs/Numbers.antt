@@ -1,5 +1,5 @@
--- The numbers of the findings are 20 and more (`finding-numbered`): so what the judge tells is all 0, and its number is 0, exactly where nothing
--- stands against the request and nothing is found (`rule-clean`, `number-clean`). Assumes nothing.
+-- The numbers of the findings are 20 and more (`finding-numbered`): so what the judge tells is all 0 exactly where nothing stands against the
+-- request and nothing is found (`rule-clean`). Assumes nothing.
 use Prim.Native.Nat.{ℕ, zero, suc, _≤_}
 use mathlib.Core.Path.{_≡_, refl, sym, ap, _∙_}
 use mathlib.Core.Bool.{Bool, true, false, not}
@@ -71,11 +71,11 @@ found-number f = eqb-false (numberOf (rule none (named f))) 0 (go f)
     go (SeenAgain i p) = refl
     go (NotFilled i p) = refl
 
--- the number alone says it
-pub number-clean : (o : Option Refusal) (f : Finding) → Numbered f → numberOf (rule o f) ≡ 0 → (o ≡ none) × (f ≡ clean)
-number-clean none clean h e = (refl, refl)
-number-clean none (found n i p) h e = absurd (omega (arith, h n i p refl, e))
-number-clean (some why) f h e = absurd (refused-number why e)
+-- number 0: nothing stands against the request, and nothing is found
+pub rule-zero : (o : Option Refusal) (f : Finding) → Numbered f → numberOf (rule o f) ≡ 0 → (o ≡ none) × (f ≡ clean)
+rule-zero none clean h e = (refl, refl)
+rule-zero none (found n i p) h e = absurd (omega (arith, h n i p refl, e))
+rule-zero (some why) f h e = absurd (refused-number why e)
 
 pub rule-clean : (o : Option Refusal) (f : Finding) → Numbered f → ruling 0 0 0 ≡ rule o f → (o ≡ none) × (f ≡ clean)
-rule-clean o f h e = number-clean o f h (sym (ap numberOf e))
+rule-clean o f h e = rule-zero o f h (sym (ap numberOf e))

@@ -55,15 +55,15 @@ module _ (k n : ℕ) (h : known k n ≡ true) where
   known-cube e = as-cube (λ (K : Kind). K .known n) e ∙ h
 
   -- what is no cube is a two-level mesh
-  two-left : k ≢ CUBE → k ≡ TWO
-  two-left ne = go (ℕ-discrete k TWO)
+  pub known-kind : k ≢ CUBE → k ≡ TWO
+  known-kind ne = go (ℕ-discrete k TWO)
     where
       go : Dec (k ≡ TWO) → k ≡ TWO
       go (yes e) = e
       go (no nt) = absurd (true-false h (sym (as-other (λ (K : Kind). K .known n) ne nt)))
 
   pub not-cube : {A : Type 0} (f : Kind → A) → k ≢ CUBE → f twos ≡ f (kindOf k)
-  not-cube f ne = as-two f ne (two-left ne)
+  not-cube f ne = as-two f ne (known-kind ne)
 
   pub known-two : k ≢ CUBE → two.known n ≡ true
   known-two ne = not-cube (λ (K : Kind). K .known n) ne ∙ h

@@ -19,7 +19,7 @@ use Rattle.mesh.specs.Kinds.{Kind}
 use Rattle.mesh.specs.Says.{requestAgainst, short}
 use Rattle.mesh.specs.Requests.{Fine, request-fine, request-passed, room-enough}
 use Rattle.judge.specs.Verdict.{numberOf, rule, judgeAgainst, judgeTold}
-use Rattle.judge.specs.Numbers.{finding-numbered, number-clean}
+use Rattle.judge.specs.Numbers.{finding-numbered, rule-zero}
 use Rattle.judge.specs.Rows.{row-below}
 use Rattle.sheet.specs.Lent.{path-at}
 
@@ -50,7 +50,7 @@ module _ (K : Kind) (n s : ℕ) (targets : List ℕ) where
   pub judged : (places counts : List ℕ) → numberOf (judgeTold K n s targets places counts false) ≡ 0 → Judged places counts
   judged places counts e =
       let missing = short m k (length places) (length counts) in
-      let r = number-clean (judgeAgainst K n s targets places counts false) (finding m s targets places counts) (finding-numbered m s targets places counts) e in
+      let r = rule-zero (judgeAgainst K n s targets places counts false) (finding m s targets places counts) (finding-numbered m s targets places counts) e in
       let p = request-passed K n s targets missing (r .0) in
       let held = room-enough m k (length places) (length counts) (p .1) in
       record {

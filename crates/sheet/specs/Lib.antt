@@ -1,6 +1,10 @@
 -- Sheets: the format, and what the writer and the reader promise.
 pub mod Format
 pub mod Says
+pub mod Total
+pub mod Putting
+pub mod Putted
+pub mod Writing
 pub mod Cases
 pub mod Unique
 pub mod Lent

@@ -15,7 +15,8 @@ use Rattle.octets.specs.Big.{big, number, big-length, number-cong, number-big}
 use Rattle.sheet.specs.Format.{VERSION, HEAD, fields, relaysBytes, pathBytes, pathsBytes, bodyOf, sheetOf, lengthAt, versionAt, kindAt, sizeAt, countAt, sourceAt, hopsAt, after, relaysAt, pathsAt}
 use Rattle.sheet.specs.Says.{flawed, badHops, looked}
 use Rattle.sheet.specs.Lent.{drop-past, drop-first, drop-next}
-use Rattle.sheet.specs.Lengths.{bytesOf, path-length, body-length, sheet-length}
+use Rattle.sheet.specs.Putting.{path-length, body-length, sheet-length}
+use Rattle.sheet.specs.Lengths.{bytesOf, paths-bytes}
 use Rattle.sheet.specs.declared.Flaw.the-variants as flaw
 
 -- numbers of 64 bits
@@ -61,11 +62,11 @@ path-there l p c at longest few h room e =
     let first : drop at l ≡ big 2 (length p) ++ (relaysBytes p ++ c) = e ∙ append-assoc (big 2 (length p)) (relaysBytes p) c in
     let n = number-there l (relaysBytes p ++ c) at 2 (length p) (omega (arith, h .short)) first in
     let second = drop-past l (big 2 (length p)) (relaysBytes p ++ c) at 2 first (big-length 2 (length p)) in
-    let past : after l at ≡ at + (2 + 8 * length p) = omega (arith, n) in
+    let past : after l at ≡ at + (2 + length p * 8) = omega (arith, n) in
     record {
       hops = n;
       relays = ap (relaysAt l (at + 2)) n ∙ relays-there l p c (at + 2) (h .words) second;
-      rest = ap (λ (i : ℕ). drop i l) past ∙ drop-past l (pathBytes p) c at (2 + 8 * length p) e (path-length p);
+      rest = ap (λ (i : ℕ). drop i l) past ∙ drop-past l (pathBytes p) c at (2 + length p * 8) e (path-length p);
       room = omega (arith, past, path-length p, ap length e, length-append (pathBytes p) c, length-drop at l);
     }
 
@@ -114,6 +115,7 @@ head-there kind size s ps h g =
     let l = sheetOf kind size s ps in
     let body = bodyOf kind size s ps in
     let n = body-length kind size s ps in
+    let bytes = paths-bytes ps in
     let end = big 8 s ++ pathsBytes ps in
     let v : drop 4 l ≡ VERSION ∷ kind ∷ size ∷ length ps ∷ end = drop-at (big 4 (length body)) body 4 (big-length 4 (length body)) ∙ append-assoc (fields kind size (length ps)) (big 8 s) (pathsBytes ps) in
     let a = drop-next l (kind ∷ size ∷ length ps ∷ end) VERSION 4 v in

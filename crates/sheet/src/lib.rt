@@ -1,4 +1,7 @@
 // Sheets: a fan as bytes. docs/SHEETS.md has the format byte by byte.
+mod put;
+
+pub use put::put_sheet;
 ghost use mathlib.Core.Path.{_≡_};
 ghost use Rattle.sheet.specs.Says as says;
 use mesh::Mesh;
@@ -67,4 +70,27 @@ impl Flaw {
             Flaw::LeftOver => 0,
         }
     }
+}
+
+// Writes the sheet of a fan from the source to the targets at the front of `out`, and gives its length. Path i begins at place i * W of the places, where W is
+// `mesh.places()`, and its hops stand in the counts at i. In the cube of 1 dimension, from 0 to 1, it is 00 00 00 16 01 01 01 01, eight 00, 00 01, seven 00,
+// 01: 26 bytes. Refuses with 35 what is no request or no fan, with 8 where places, counts or, for a fan, `out` are too short, and then writes nothing.
+pub fn write(
+    mesh: Mesh,
+    source: u64,
+    targets: &[u64],
+    places: &[u64],
+    counts: &[u64],
+    out: &mut [u8],
+) -> Written
+    ensures { λ r. ⌜ says.Wrote (mesh .kind) (mesh .size) source (now (targets .entry)) (now (places .entry)) (now (counts .entry)) (now (out .entry)) r (now (out .exit)) ⌝ }
+{
+    let found = judge::judge(mesh, source, targets, places, counts).number();
+    if found == 0 {
+        return put_sheet(mesh, source, targets.len(), places, counts, out);
+    }
+    if found == 8 {
+        return Written::Refused(Flaw::NoRoom);
+    }
+    Written::Refused(Flaw::NotAFan)
 }
