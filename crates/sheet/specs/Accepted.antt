@@ -18,6 +18,8 @@ use Rattle.mesh.specs.Requests.{neither-wanting, room-enough}
 use Rattle.judge.specs.Verdict.{numberOf, judgeTold}
 use Rattle.sheet.specs.Format.{VERSION, HEAD, lengthAt, versionAt, kindAt, sizeAt, countAt, sourceAt}
 use Rattle.sheet.specs.Says.{flawed, before, cut, badCount, looked, meshAt, sheetTargets, sheetPlaces, sheetCounts, headAgainst, unjudged, lacking, readAgainst}
+use Rattle.sheet.specs.Looking.{flawed-none}
+use Rattle.sheet.specs.Taking.{before-none}
 use Rattle.sheet.specs.Judging.{enough}
 use Rattle.sheet.specs.declared.Flaw.{Flaw}
 use Rattle.sheet.specs.declared.Flaw.the-variants as flaw
@@ -43,16 +45,8 @@ pub record Accepted (l : List ℕ) (places counts targets : ℕ) : Type 0 where
 no-flaw : {f : Flaw} {A : Type 0} → _≡_ {A = Option Flaw} (some f) none → A
 no-flaw e = let z : _≡_ {A = ℕ} 0 1 = cc in absurd (omega arith)
 
-pub flawed-none : (b : Bool) (f : Flaw) (rest : Option Flaw) → flawed b f rest ≡ none → (b ≡ false) × (rest ≡ none)
-flawed-none true f rest e = no-flaw e
-flawed-none false f rest e = (refl, e)
-
 none-flawed : {b : Bool} (f : Flaw) {rest : Option Flaw} → b ≡ false → rest ≡ none → flawed b f rest ≡ none
 none-flawed f {rest} e c = ap (λ (b : Bool). flawed b f rest) e ∙ c
-
-before-none : (o rest : Option Flaw) → before o rest ≡ none → (o ≡ none) × (rest ≡ none)
-before-none none rest e = (refl, e)
-before-none (some f) rest e = no-flaw e
 
 none-before : {o rest : Option Flaw} → o ≡ none → rest ≡ none → before o rest ≡ none
 none-before {o} {rest} e c = ap (λ (o : Option Flaw). before o rest) e ∙ c

@@ -3,51 +3,31 @@
 use Prim.Native.Nat.{ℕ, zero, suc, _+_, _*_, _≤_}
 use mathlib.Core.Path.{_≡_, refl, sym, ap, ap₂, _∙_}
 use mathlib.Core.Bool.{not}
-use mathlib.Core.Logic.{_≢_}
 use mathlib.Core.List.{List, _∷_, _++_, append-assoc}
 use mathlib.Core.Option.{none}
 use native.Mathlib.Omega.{arith}
-use lib.Dec.{eqb, ltb}
+use lib.Dec.{eqb}
 use lib.ListN.{length, take, drop, length-drop, take-append-drop}
 use lib.Seq.{take-add, drop-drop, drop-cons, drop-length}
-use borrow.Author.Tests.{ltb-false, eqb-true, eqb-false, not-false}
-use Rattle.mesh.specs.Requests.{neither-wanting}
+use borrow.Author.Tests.{eqb-true, not-false}
 use Rattle.octets.specs.Big.{Bytes, big, big-number}
 use Rattle.sheet.specs.Format.{HEAD, fields, relaysBytes, pathBytes, pathsBytes, bodyOf, sheetOf, versionAt, kindAt, sizeAt, countAt, sourceAt, hopsAt, after, relaysAt, pathsAt}
-use Rattle.sheet.specs.Says.{badHops, looked, meshAt, sheetPaths}
+use Rattle.sheet.specs.Says.{looked, meshAt, sheetPaths}
+use Rattle.sheet.specs.Taken.{wrongAt}
+use Rattle.sheet.specs.Looking.{Fine, fine, flawed-none, looked-more}
+use Rattle.sheet.specs.Running.{relays-count}
+use Rattle.sheet.specs.Taking.{before-none, paths-length}
 use Rattle.sheet.specs.Lent.{Within}
-use Rattle.sheet.specs.Accepted.{Accepted, flawed-none}
+use Rattle.sheet.specs.Accepted.{Accepted}
 use Rattle.sheet.specs.declared.Flaw.the-variants as flaw
 
--- ---- what is read has the length that was asked for
+-- ---- paths that nothing stands against
 
-pub relaysAt-length : (l : List ℕ) (at n : ℕ) → length (relaysAt l at n) ≡ n
-unfolding relaysAt
-relaysAt-length l at zero = refl
-relaysAt-length l at (suc n) = ap suc (relaysAt-length l (at + 8) n)
-
-pub pathsAt-length : (l : List ℕ) (at k : ℕ) → length (pathsAt l at k) ≡ k
-unfolding pathsAt
-pathsAt-length l at zero = refl
-pathsAt-length l at (suc k) = ap suc (pathsAt-length l (after l at) k)
-
--- ---- a path that nothing stands against
-
-pub record Looked (longest : ℕ) (l : List ℕ) (at i k : ℕ) : Type 0 where
-  pub some-hop : hopsAt l at ≢ 0
-  pub short : hopsAt l at ≤ longest
-  pub room : after l at ≤ length l
-  pub rest : looked longest l (after l at) (suc i) k ≡ none
-
-pub looked-more : (longest : ℕ) (l : List ℕ) (at i k : ℕ) → looked longest l at i (suc k) ≡ none → Looked longest l at i k
-unfolding looked
-looked-more longest l at i k e =
-    let h = hopsAt l at in
-    let a = flawed-none (ltb (length l) (at + 2)) flaw.Cut _ e in
-    let b = flawed-none (badHops longest h) (flaw.Hops i) _ (a .1) in
-    let c = flawed-none (ltb (length l) (after l at)) flaw.Cut _ (b .1) in
-    let good = neither-wanting (eqb h 0) (ltb longest h) refl (b .0) in
-    record { some-hop = eqb-false h 0 (good .0); short = ltb-false longest h (good .1); room = ltb-false (length l) (after l at) (c .0); rest = c .1 }
+-- one of them, and the rest
+pub looked-first : (longest : ℕ) (l : List ℕ) (at i k : ℕ) → looked longest l at i (suc k) ≡ none → Fine longest l at × (looked longest l (after l at) (suc i) k ≡ none)
+looked-first longest l at i k e =
+    let r = before-none (wrongAt longest l at i) (looked longest l (after l at) (suc i) k) (sym (looked-more longest l at i k) ∙ e) in
+    (fine longest l at i (r .0), r .1)
 
 pub looked-end : (longest : ℕ) (l : List ℕ) (at i : ℕ) → looked longest l at i 0 ≡ none → at ≡ length l
 unfolding looked
@@ -58,8 +38,8 @@ pub looked-within : (longest : ℕ) (l : List ℕ) (at i k : ℕ) → looked lon
 unfolding pathsAt
 looked-within longest l at i zero e = tt
 looked-within longest l at i (suc k) e =
-    let r = looked-more longest l at i k e in
-    (omega (arith, relaysAt-length l (at + 2) (hopsAt l at), r .short), looked-within longest l (after l at) (suc i) k (r .rest))
+    let r = looked-first longest l at i k e in
+    (omega (arith, relays-count l (at + 2) (hopsAt l at), r .0 .short), looked-within longest l (after l at) (suc i) k (r .1))
 
 module _ (l : List ℕ) (b : Bytes l) where
   -- n bytes and what follows them, after a place
@@ -80,7 +60,7 @@ module _ (l : List ℕ) (b : Bytes l) where
   unfolding pathBytes
   path-again at h =
       let n = hopsAt l at in
-      ap (λ (c : ℕ). big 2 c ++ relaysBytes (relaysAt l (at + 2) n)) (relaysAt-length l (at + 2) n)
+      ap (λ (c : ℕ). big 2 c ++ relaysBytes (relaysAt l (at + 2) n)) (relays-count l (at + 2) n)
       ∙ ap₂ _++_ (big-number l b at 2 (omega arith)) (relays-again (at + 2) n (omega arith)) ∙ take-more at 2 (n * 8)
 
   -- the paths are all that follows
@@ -88,9 +68,9 @@ module _ (l : List ℕ) (b : Bytes l) where
   unfolding pathsBytes pathsAt
   paths-again longest at i zero e = sym (drop-length l) ∙ ap (λ (j : ℕ). drop j l) (sym (looked-end longest l at i e))
   paths-again longest at i (suc k) e =
-      let r = looked-more longest l at i k e in
+      let r = looked-first longest l at i k e in
       let past : after l at ≡ at + (2 + hopsAt l at * 8) = omega arith in
-      ap₂ _++_ (path-again at (r .room)) (paths-again longest (after l at) (suc i) k (r .rest) ∙ ap (λ (j : ℕ). drop j l) past)
+      ap₂ _++_ (path-again at (r .0 .within)) (paths-again longest (after l at) (suc i) k (r .1) ∙ ap (λ (j : ℕ). drop j l) past)
       ∙ take-rest at (2 + hopsAt l at * 8)
 
   -- ---- a sheet
@@ -103,7 +83,7 @@ module _ (l : List ℕ) (b : Bytes l) where
         append-assoc (fields (kindAt l) (sizeAt l) (length (sheetPaths l))) (big 8 (sourceAt l)) (pathsBytes (sheetPaths l))
         ∙ ap (λ (r : List ℕ). fields (kindAt l) (sizeAt l) (length (sheetPaths l)) ++ r)
         (ap₂ _++_ (big-number l b 8 8 (omega arith)) (paths-again (meshAt l .longest) HEAD 0 (countAt l) (a .looks)) ∙ take-rest 8 8)
-        ∙ ap₂ (λ (v k : ℕ). v ∷ kindAt l ∷ sizeAt l ∷ k ∷ drop 8 l) (sym (a .version)) (pathsAt-length l HEAD (countAt l))
+        ∙ ap₂ (λ (v k : ℕ). v ∷ kindAt l ∷ sizeAt l ∷ k ∷ drop 8 l) (sym (a .version)) (paths-length l HEAD (countAt l))
         ∙ sym (drop-cons l 4 0 (omega arith) ∙ ap (λ (r : List ℕ). versionAt l ∷ r) (drop-cons l 5 0 (omega arith)
         ∙ ap (λ (r : List ℕ). kindAt l ∷ r) (drop-cons l 6 0 (omega arith) ∙ ap (λ (r : List ℕ). sizeAt l ∷ r) (drop-cons l 7 0 (omega arith)))))
 

@@ -6,12 +6,13 @@ use mathlib.Core.List.{List, [], _∷_, _++_, append-assoc}
 use native.Mathlib.Nat.{suc-mul}
 use native.Mathlib.Omega.{arith}
 use native.Mathlib.Decide.{decLt}
-use lib.ListN.{length, getD, take, drop, replicate, length-append, length-drop, length-replicate, getD-replicate, List·getD-append, List·getD-eq-default}
+use lib.ListN.{length, getD, take, drop, replicate, length-append, length-drop, getD-replicate, List·getD-append, List·getD-eq-default}
 use lib.Seq.{take-add, drop-at, drop-drop, drop-cons, drop-length, getD-take, getD-drop, getD-append-add, ext-getD, length-take-le}
 use Rattle.paths.specs.Mesh.{Mesh, width}
 use Rattle.paths.specs.Fan.{filler, relay, hops, Path, Fan}
 use Rattle.paths.specs.Lists.{ahead, ahead-length, ahead-at}
 use Rattle.paths.specs.Read.{read}
+use Rattle.sheet.specs.Taking.{row-length}
 use Rattle.sheet.specs.Format.{row, placesOf, countsOf, lastOf, targetsOf, pathsFrom, pathsOf}
 
 -- no path has more than so many hops
@@ -21,27 +22,12 @@ Within longest (p ∷ l) = (length p ≤ longest) × Within longest l
 
 -- ---- how many
 
-pub row-length : (s longest : ℕ) (p : List ℕ) → length p ≤ longest → length (row s longest p) ≡ longest + 1
-unfolding row
-row-length s longest p h =
-    length-append (s ∷ p) (replicate (longest - length p) filler) ∙ omega (arith, length-replicate (longest - length p) filler)
-
 pub places-length : (s longest : ℕ) (ps : List (List ℕ)) → Within longest ps → length (placesOf s longest ps) ≡ length ps * (longest + 1)
 unfolding placesOf
 places-length s longest [] h = omega arith
 places-length s longest (p ∷ l) h =
     length-append (row s longest p) (placesOf s longest l)
     ∙ omega (arith, row-length s longest p (h .0), places-length s longest l (h .1), suc-mul (length l) (longest + 1))
-
-pub counts-length : (ps : List (List ℕ)) → length (countsOf ps) ≡ length ps
-unfolding countsOf
-counts-length [] = refl
-counts-length (p ∷ l) = ap suc (counts-length l)
-
-pub targets-length : (s : ℕ) (ps : List (List ℕ)) → length (targetsOf s ps) ≡ length ps
-unfolding targetsOf
-targets-length s [] = refl
-targets-length s (p ∷ l) = ap suc (targets-length s l)
 
 pub paths-length : (w : ℕ) (places counts : List ℕ) (i n : ℕ) → length (pathsFrom w places counts i n) ≡ n
 unfolding pathsFrom

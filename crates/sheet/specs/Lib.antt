@@ -5,6 +5,10 @@ pub mod Total
 pub mod Putting
 pub mod Putted
 pub mod Writing
+pub mod Taken
+pub mod Looking
+pub mod Running
+pub mod Taking
 pub mod Cases
 pub mod Unique
 pub mod Lent

@@ -16,10 +16,9 @@ use Rattle.judge.specs.Verdict.{numberOf, judgeTold}
 use Rattle.sheet.specs.Format.{HEAD, kindAt, sizeAt, countAt, sourceAt}
 use Rattle.sheet.specs.Says.{settled, flawNumber, wrote, tellWritten, sheet, ruled, writeAgainst, Wrote, reads, tellRead, readsAgainst, sheetPaths, sheetTargets, sheetPlaces, sheetCounts, Read}
 use Rattle.sheet.specs.Unique.{flaw-some, reading-unique, wrote-unique}
-use Rattle.sheet.specs.Lent.{targets-length}
+use Rattle.sheet.specs.Taking.{paths-length, targets-length}
 use Rattle.sheet.specs.Judging.{judged}
 use Rattle.sheet.specs.Accepted.{write-granted}
-use Rattle.sheet.specs.Again.{pathsAt-length}
 use Rattle.sheet.specs.TripsRead.{ReadsBack, write-read}
 use Rattle.sheet.specs.TripsWrite.{read-write}
 use Rattle.sheet.specs.declared.Flaw.{Flaw}
@@ -132,7 +131,7 @@ module _ (l : List ℕ) (bytes : Bytes l) (places counts targets : List ℕ) whe
   read-writes mesh s k places₁ counts₁ targets₁ v out room r out₁ u =
       let fine = read-fine (readsAgainst l places counts targets) (mesh .kind) (mesh .size) s k (kindAt l) (sizeAt l) (sourceAt l) (countAt l) (v .told) in
       let kept : (now was : List ℕ) → settled (readsAgainst l places counts targets) now was ≡ now = λ now was. ap (λ (o : Option Flaw). settled o now was) (fine .0) in
-      let many : length (sheetTargets l) ≡ k = targets-length (sourceAt l) (sheetPaths l) ∙ pathsAt-length l HEAD (countAt l) ∙ sym (fine .4) in
+      let many : length (sheetTargets l) ≡ k = targets-length (sourceAt l) (sheetPaths l) ∙ paths-length l HEAD (countAt l) ∙ sym (fine .4) in
       let aims : take k targets₁ ≡ sheetTargets l = ap (take k) (v .aimed ∙ kept _ targets) ∙ take-at (sheetTargets l) (drop (length (sheetTargets l)) targets) k many in
       sheet-written (fine .0) (drop (length (sheetPlaces l)) places) (drop (length (sheetCounts l)) counts) out room r out₁
       (wrote-same (fine .1) (fine .2) (fine .3) aims (v .placed ∙ kept _ places) (v .counted ∙ kept _ counts) u)

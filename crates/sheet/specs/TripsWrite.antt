@@ -12,7 +12,8 @@ use Rattle.mesh.specs.Kinds.{kindOf}
 use Rattle.judge.specs.Verdict.{numberOf, judgeTold}
 use Rattle.sheet.specs.Format.{HEAD, sheetOf, kindAt, sizeAt, countAt, sourceAt, pathsOf}
 use Rattle.sheet.specs.Says.{sheet, writeAgainst, meshAt, sheetPaths, sheetTargets, sheetPlaces, sheetCounts, readAgainst}
-use Rattle.sheet.specs.Lent.{Within, places-length, counts-length, targets-length, paths-lent}
+use Rattle.sheet.specs.Lent.{Within, places-length, paths-lent}
+use Rattle.sheet.specs.Taking.{counts-length, targets-length}
 use Rattle.sheet.specs.Judging.{judged, judged-told, judged-same}
 use Rattle.sheet.specs.Accepted.{Accepted, accepted, write-grants}
 use Rattle.sheet.specs.Again.{looked-within, sheet-again}

@@ -1,5 +1,6 @@
 // Sheets: a fan as bytes. docs/SHEETS.md has the format byte by byte.
 mod put;
+mod take;
 
 pub use put::put_sheet;
 ghost use mathlib.Core.Path.{_≡_};
@@ -36,6 +37,18 @@ pub enum Written {
 pub enum Reading {
     Fan(Mesh, u64, usize),
     Refused(Flaw),
+}
+
+// Where the next path begins, or what is wrong with this one.
+enum Stride {
+    Next(usize),
+    Flawed(Flaw),
+}
+
+// What looking through the paths ends with.
+enum Looked {
+    Whole,
+    Flawed(Flaw),
 }
 
 impl Flaw {
