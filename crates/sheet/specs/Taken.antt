@@ -1,11 +1,14 @@
 -- What the functions that look through a sheet's paths and take them out of it ask and promise.
 use Prim.Native.Nat.{ℕ, _+_, _*_, _≤_, _<_}
 use mathlib.Core.Path.{_≡_}
+use mathlib.Core.Bool.{Bool, true, false}
 use mathlib.Core.List.{List}
 use mathlib.Core.Option.{Option, none, some}
-use lib.Dec.{ltb}
+use lib.Dec.{eqb, ltb}
 use lib.ListN.{length}
 use lib.Seq.{sets}
+use Rattle.mesh.specs.Kinds.{kindOf, meshOf}
+use Rattle.judge.specs.Verdict.{numberOf, judgeTold}
 use Rattle.sheet.specs.Format.{HEAD, hopsAt, after, pathsAt, placesOf, countsOf, targetsOf}
 use Rattle.sheet.specs.Says.{flawed, badHops, looked}
 use Rattle.sheet.specs.declared.Flaw.{Flaw}
@@ -52,6 +55,18 @@ pub record Taken (l : List ℕ) (longest k places counts targets : ℕ) : Type 0
 
 -- the paths' rows, their hops and their last relays
 pub record TakenPaths (l : List ℕ) (s longest k : ℕ) (places counts targets places₁ counts₁ targets₁ : List ℕ) : Type 0 where
+  pub wide : length (placesOf s longest (pathsAt l HEAD k)) ≡ k * (longest + 1)
   pub placed : places₁ ≡ sets places 0 (placesOf s longest (pathsAt l HEAD k))
   pub counted : counts₁ ≡ sets counts 0 (countsOf (pathsAt l HEAD k))
   pub aimed : targets₁ ≡ sets targets 0 (targetsOf s (pathsAt l HEAD k))
+
+-- ---- judged
+
+-- k paths of a mesh were looked through, and there is room for them
+pub record Judgeable (l : List ℕ) (kind size longest k places counts targets : ℕ) : Type 0 where
+  pub wide : longest ≡ meshOf kind size .longest
+  pub taken : Taken l longest k places counts targets
+
+-- the paths pass the judge
+abbrev pub passes : (kind size s : ℕ) (ps : List (List ℕ)) → Bool
+passes kind size s ps = eqb (numberOf (judgeTold (kindOf kind) size s (targetsOf s ps) (placesOf s (meshOf kind size .longest) ps) (countsOf ps) false)) 0

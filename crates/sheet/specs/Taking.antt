@@ -1,20 +1,24 @@
 -- Why the paths taken out of a sheet are its paths: one row (`row-taken`), and the loop over them (`Taking`). Assumes nothing.
 use Prim.Native.Nat.{ℕ, zero, suc, _+_, _-_, _*_, _≤_, _<_}
 use mathlib.Core.Path.{_≡_, refl, sym, ap, ap₂, _∙_, subst}
+use mathlib.Core.Bool.{false}
 use mathlib.Core.List.{List, [], _∷_, _++_, append-assoc, append-nil}
 use mathlib.Core.Option.{Option, none, some}
 use native.Mathlib.Nat.{zero-add, suc-mul}
 use native.Mathlib.Numerals.{add-one}
 use native.Mathlib.Omega.{arith}
-use lib.ListN.{length, set, replicate, length-append, length-set, length-replicate}
-use lib.Seq.{sets, length-sets}
+use lib.Dec.{eqb}
+use lib.ListN.{length, take, drop, set, replicate, length-append, length-set, length-replicate}
+use lib.Seq.{sets, length-sets, sets-eq, take-at}
 use Rattle.octets.specs.Big.{number}
 use Rattle.octets.specs.Turns.{sets-append}
 use Rattle.paths.specs.Fan.{filler}
+use Rattle.mesh.specs.Kinds.{kindOf}
 use Rattle.judge.specs.Rows.{row-below}
+use Rattle.judge.specs.Verdict.{numberOf, judgeTold}
 use Rattle.sheet.specs.Format.{HEAD, hopsAt, after, relaysAt, pathsAt, row, placesOf, countsOf, lastOf, targetsOf}
 use Rattle.sheet.specs.Says.{before, looked}
-use Rattle.sheet.specs.Taken.{wrongAt, Taken, TakenPaths}
+use Rattle.sheet.specs.Taken.{wrongAt, Taken, TakenPaths, Judgeable, passes}
 use Rattle.sheet.specs.Looking.{Fine, fine, looked-more}
 use Rattle.sheet.specs.Running.{relays-count}
 use Rattle.sheet.specs.declared.Flaw.{Flaw}
@@ -111,7 +115,6 @@ pub record Taking (l : List ℕ) (s longest k : ℕ) (places₀ counts₀ target
   pub within : i ≤ k
   pub sound : looked longest l at i (k - i) ≡ none
   pub at-is : at ≡ offset l HEAD i
-  pub wide : length (placesOf s longest (pathsAt l HEAD i)) ≡ i * (longest + 1)
   pub long : length places ≡ length places₀
   pub long-counts : length counts ≡ length counts₀
   pub long-targets : length targets ≡ length targets₀
@@ -125,11 +128,10 @@ taking-starts {l} {longest} {k} s a = record {
   within = omega arith;
   sound = (let all : k - 0 ≡ k = omega arith in ap (looked longest l HEAD 0) all ∙ a .sound);
   at-is = refl;
-  wide = omega arith;
   long = refl;
   long-counts = refl;
   long-targets = refl;
-  taken = record { placed = refl; counted = refl; aimed = refl };
+  taken = record { wide = omega arith; placed = refl; counted = refl; aimed = refl };
 }
 
 module _ {l : List ℕ} {s longest k : ℕ} {places₀ counts₀ targets₀ places counts targets : List ℕ} {at i : ℕ}
@@ -171,17 +173,17 @@ module _ {l : List ℕ} {s longest k : ℕ} {places₀ counts₀ targets₀ plac
     within = omega arith;
     sound = ap (λ (y : ℕ). looked longest l y (i + 1) (k - (i + 1))) next-at ∙ ap (λ (y : ℕ). looked longest l (after l at) y (k - (i + 1))) (add-one i) ∙ both .1;
     at-is = next-at ∙ ap (after l) (v .at-is) ∙ sym (offset-more l HEAD i) ∙ ap (offset l HEAD) (sym (add-one i));
-    wide =
-        ap (λ (y : List (List ℕ)). length (placesOf s longest y)) more ∙ ap length (places-more s longest ps next)
-        ∙ length-append (placesOf s longest ps) (row s longest next)
-        ∙ ap₂ (λ (y z : ℕ). y + z) (v .wide) (row-length s longest next short) ∙ one-row;
     long = ap length p ∙ length-sets places (i * (longest + 1)) (row s longest (relaysAt l (at + 2) hops)) ∙ v .long;
     long-counts = length-set counts i hops ∙ v .long-counts;
     long-targets = length-set targets i x ∙ v .long-targets;
     taken = record {
+      wide =
+          ap (λ (y : List (List ℕ)). length (placesOf s longest y)) more ∙ ap length (places-more s longest ps next)
+          ∙ length-append (placesOf s longest ps) (row s longest next)
+          ∙ ap₂ (λ (y z : ℕ). y + z) (v .taken .wide) (row-length s longest next short) ∙ one-row;
       placed =
           p ∙ ap₂ (λ (y : List ℕ) (z : ℕ). sets y (i * (longest + 1)) (row s longest (relaysAt l (at + 2) z))) (v .taken .placed) e
-          ∙ piece (placesOf s longest ps) (row s longest next) places₀ (v .wide)
+          ∙ piece (placesOf s longest ps) (row s longest next) places₀ (v .taken .wide)
           ∙ ap (sets places₀ 0) (sym (ap (placesOf s longest) more ∙ places-more s longest ps next));
       counted =
           ap₂ (λ (y : List ℕ) (z : ℕ). set y i z) (v .taken .counted) (e ∙ sym (relays-count l (at + 2) (hopsAt l at)))
@@ -211,3 +213,25 @@ pub taking-ends : {l : List ℕ} {s longest k : ℕ} {places₀ counts₀ target
 taking-ends {l} {s} {longest} {k} {places₀} {counts₀} {targets₀} {places} {counts} {targets} {at} {i} v h =
     let all : i ≡ k = omega (arith, v .within) in
     subst (λ (n : ℕ). TakenPaths l s longest n places₀ counts₀ targets₀ places counts targets) all (v .taken)
+
+-- ---- judged
+
+-- what was put at the front is found there
+pub front : (a l : List ℕ) {n : ℕ} → length a ≡ n → n ≤ length l → take n (sets l 0 a) ≡ a
+front a l {n} e h = ap (take n) (sets-eq a l 0 (omega (arith, e))) ∙ take-at a (drop (0 + length a) l) n e
+
+-- the judge sees the paths of the sheet
+pub judged-sheet : (l : List ℕ) (kind size s longest k : ℕ) {places counts targets places₁ counts₁ targets₁ : List ℕ} {r : ℕ}
+    → Judgeable l kind size longest k (length places) (length counts) (length targets) → TakenPaths l s longest k places counts targets places₁ counts₁ targets₁
+    → r ≡ numberOf (judgeTold (kindOf kind) size s (take k targets₁) (take (k * (longest + 1)) places₁) (take k counts₁) false) → eqb r 0 ≡ passes kind size s (pathsAt l HEAD k)
+judged-sheet l kind size s longest k {places} {counts} {targets} {places₁} {counts₁} {targets₁} {r} j t e =
+    let ps = pathsAt l HEAD k in
+    let few = paths-length l HEAD k in
+    let a : take k targets₁ ≡ targetsOf s ps = ap (take k) (t .aimed) ∙ front (targetsOf s ps) targets (targets-length s ps ∙ few) (j .taken .aimed) in
+    let b : take (k * (longest + 1)) places₁ ≡ placesOf s longest ps = ap (take (k * (longest + 1))) (t .placed) ∙ front (placesOf s longest ps) places (t .wide) (j .taken .room) in
+    let c : take k counts₁ ≡ countsOf ps = ap (take k) (t .counted) ∙ front (countsOf ps) counts (counts-length ps ∙ few) (j .taken .counted) in
+    ap (λ (x : ℕ). eqb x 0)
+    (e
+    ∙ ap (λ (x : List ℕ). numberOf (judgeTold (kindOf kind) size s x (take (k * (longest + 1)) places₁) (take k counts₁) false)) a
+    ∙ ap₂ (λ (x y : List ℕ). numberOf (judgeTold (kindOf kind) size s (targetsOf s ps) x y false)) b c
+    ∙ ap (λ (x : ℕ). numberOf (judgeTold (kindOf kind) size s (targetsOf s ps) (placesOf s x ps) (countsOf ps) false)) (j .wide))

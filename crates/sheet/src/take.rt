@@ -4,12 +4,13 @@ ghost use Prim.Native.Nat.{_+_, _*_, _≤_, _<_};
 ghost use lib.ListN.{length, replicate};
 ghost use lib.Seq.{sets};
 ghost use Rattle.paths.specs.Fan.{filler};
-ghost use Rattle.sheet.specs.Format.{HEAD, after, relaysAt, row};
+ghost use Rattle.sheet.specs.Format.{HEAD, after, relaysAt, pathsAt, row};
 ghost use Rattle.sheet.specs.Says.{looked};
-ghost use Rattle.sheet.specs.Taken.{tellStride, strideTold, wrongAt, lookedOf, Taken, TakenPaths};
+ghost use Rattle.sheet.specs.Taken.{tellStride, strideTold, wrongAt, lookedOf, Taken, TakenPaths, Judgeable, passes};
 use crate::Flaw;
 use crate::Looked;
 use crate::Stride;
+use mesh::Mesh;
 use paths::FILLER;
 
 // Looks at path i, which begins at the place `at`.
@@ -121,4 +122,44 @@ pub fn take_paths(
         targets[i] = octets::number(bytes, at - 8, 8);
         i += 1;
     }
+}
+
+// Whether the k paths, which were looked through, and what they are asked for pass the judge. They are taken into the slices lent for that.
+fn judged_in(
+    mesh: Mesh,
+    source: u64,
+    longest: usize,
+    k: usize,
+    bytes: &[u8],
+    places: &mut [u64],
+    counts: &mut [u64],
+    targets: &mut [u64],
+) -> bool
+    requires { ⌜ Judgeable (now bytes) (mesh .kind) (mesh .size) longest k (length (now places)) (length (now counts)) (length (now targets)) ⌝ }
+    ensures { λ r. ⌜ r ≡ passes (mesh .kind) (mesh .size) source (pathsAt (now (bytes .entry)) HEAD k) ⌝ }
+{
+    take_paths(bytes, source, longest, k, places, counts, targets);
+    let end = k * (longest + 1);
+    let verdict = judge::judge(mesh, source, &targets[..k], &places[..end], &counts[..k]);
+    verdict.number() == 0
+}
+
+// The same, in room of its own: 32 paths of a cube take 1,088 places, and 6 of a two-level mesh 1,242.
+pub fn judged(mesh: Mesh, source: u64, longest: usize, k: usize, bytes: &[u8]) -> bool
+    requires { ⌜ Judgeable (now bytes) (mesh .kind) (mesh .size) longest k 1242 32 32 ⌝ }
+    ensures { λ r. ⌜ r ≡ passes (mesh .kind) (mesh .size) source (pathsAt (now (bytes .entry)) HEAD k) ⌝ }
+{
+    let mut places = [0u64; 1242];
+    let mut counts = [0u64; 32];
+    let mut targets = [0u64; 32];
+    judged_in(
+        mesh,
+        source,
+        longest,
+        k,
+        bytes,
+        &mut places,
+        &mut counts,
+        &mut targets,
+    )
 }
