@@ -1,5 +1,5 @@
 -- Bytes that were read are written again: relays (`relays-again`), the paths of a sheet that nothing stands against (`paths-again`), and an
--- accepted sheet whole (`sheet-again`). Assumes nothing.
+-- accepted sheet whole (`sheet-again`); so sheets that hold the same fan are the same (`same-sheet`). Assumes nothing.
 use Prim.Native.Nat.{ℕ, zero, suc, _+_, _*_, _≤_}
 use mathlib.Core.Path.{_≡_, refl, sym, ap, ap₂, _∙_}
 use mathlib.Core.Bool.{not}
@@ -94,3 +94,10 @@ module _ (l : List ℕ) (b : Bytes l) where
         ap (λ (r : List ℕ). big 4 (length r) ++ r) body-again
         ∙ ap (λ (n : ℕ). big 4 n ++ drop 4 l) (length-drop 4 l ∙ sym (a .counted))
         ∙ ap (λ (r : List ℕ). r ++ drop 4 l) (big-number l b 0 4 (omega arith)) ∙ take-rest 0 4
+
+-- sheets that hold the same fan are the same
+pub same-sheet : (l r : List ℕ) → Bytes l → Bytes r → (p c t q d u : ℕ) → Accepted l p c t → Accepted r q d u → kindAt l ≡ kindAt r → sizeAt l ≡ sizeAt r
+    → sourceAt l ≡ sourceAt r → sheetPaths l ≡ sheetPaths r → l ≡ r
+same-sheet l r b e p c t q d u a f kind size source paths =
+    sym (sheet-again l b p c t a) ∙ ap₂ (λ (x y : ℕ). sheetOf x y (sourceAt l) (sheetPaths l)) kind size
+    ∙ ap₂ (sheetOf (kindAt r) (sizeAt r)) source paths ∙ sheet-again r e q d u f

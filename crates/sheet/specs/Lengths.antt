@@ -10,7 +10,8 @@ use Rattle.paths.specs.Mesh.{Mesh, width}
 use Rattle.paths.specs.Fan.{Fan}
 use Rattle.sheet.specs.Format.{HEAD, pathBytes, pathsBytes, sheetOf, pathsOf}
 use Rattle.sheet.specs.Putting.{path-length, sheet-length}
-use Rattle.sheet.specs.Lent.{Within, paths-length, within-of}
+use Rattle.sheet.specs.Putted.{pathsFrom-length}
+use Rattle.sheet.specs.Lent.{Within, within-of}
 
 -- the bytes that paths take
 unfoldable pub bytesOf : List (List ℕ) → ℕ
@@ -40,5 +41,5 @@ pub fan-sheet-most : (m : Mesh) (s : ℕ) (targets places counts : List ℕ) →
     → length (sheetOf kind size s (pathsOf (width m) places counts (length targets))) ≤ HEAD + length targets * (2 + 8 * m .longest)
 fan-sheet-most m s targets places counts f kind size =
     let ps = pathsOf (width m) places counts (length targets) in
-    subst (λ (k : ℕ). length (sheetOf kind size s ps) ≤ HEAD + k * (2 + 8 * m .longest)) (paths-length (width m) places counts 0 (length targets))
+    subst (λ (k : ℕ). length (sheetOf kind size s ps) ≤ HEAD + k * (2 + 8 * m .longest)) (pathsFrom-length (width m) places counts 0 (length targets))
     (sheet-most kind size s (m .longest) ps (within-of m s places counts targets f))

@@ -29,11 +29,6 @@ places-length s longest (p ∷ l) h =
     length-append (row s longest p) (placesOf s longest l)
     ∙ omega (arith, row-length s longest p (h .0), places-length s longest l (h .1), suc-mul (length l) (longest + 1))
 
-pub paths-length : (w : ℕ) (places counts : List ℕ) (i n : ℕ) → length (pathsFrom w places counts i n) ≡ n
-unfolding pathsFrom
-paths-length w places counts i zero = refl
-paths-length w places counts i (suc n) = ap suc (paths-length w places counts (suc i) n)
-
 -- ---- laid out, and read back
 
 -- where a stands in l, followed by b, b stands after it

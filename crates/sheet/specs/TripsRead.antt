@@ -15,7 +15,8 @@ use Rattle.mesh.specs.Requests.{Fine}
 use Rattle.judge.specs.Verdict.{numberOf, judgeTold}
 use Rattle.sheet.specs.Format.{HEAD, pathsBytes, sheetOf, kindAt, sizeAt, countAt, sourceAt, pathsAt, placesOf, countsOf, targetsOf, pathsOf}
 use Rattle.sheet.specs.Says.{looked, meshAt, sheetPaths, sheetTargets, sheetPlaces, sheetCounts, readAgainst}
-use Rattle.sheet.specs.Lent.{paths-length, within-of, places-of, counts-of, targets-of}
+use Rattle.sheet.specs.Putted.{pathsFrom-length}
+use Rattle.sheet.specs.Lent.{within-of, places-of, counts-of, targets-of}
 use Rattle.sheet.specs.Lengths.{bytesOf, bytes-most}
 use Rattle.sheet.specs.There.{Fit, Head, pathsAt-there, looked-there, head-there}
 use Rattle.sheet.specs.Fits.{fan-fits}
@@ -68,7 +69,7 @@ module _ (kind size s : ℕ) (targets places counts : List ℕ) (e : numberOf (j
   fits = fan-fits m s targets places counts narrow (is-judged .fan) (fine .sound .other)
 
   how-many : length ps ≡ k
-  how-many = paths-length w places counts 0 k
+  how-many = pathsFrom-length w places counts 0 k
 
   few-bytes : 12 + bytesOf ps < 256 ^ 4
   few-bytes =
