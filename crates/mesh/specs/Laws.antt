@@ -1,8 +1,8 @@
 -- Laws of the kinds. Assumes nothing.
 --
 -- What holds of the cubes holds of kind 1, and so for each kind (`as-cube`, `as-two`, `as-other`); a mesh that there is is of one of them
--- (`known-two`), and small enough for a machine's numbers (`known-small`).
-use Prim.Native.Nat.{ℕ, _≤_}
+-- (`known-two`), and small enough for a machine's numbers (`known-small`, `known-relays`).
+use Prim.Native.Nat.{ℕ, _^_, _≤_}
 use mathlib.Core.Path.{_≡_, refl, sym, ap, ap₂, _∙_, subst}
 use mathlib.Core.Bool.{Bool, true, false, not}
 use mathlib.Core.List.{List}
@@ -11,6 +11,7 @@ use mathlib.Core.Logic.{_≢_}
 use native.Mathlib.Omega.{arith}
 use native.Mathlib.Decide.{ℕ-discrete}
 use lib.Dec.{eqb}
+use lib.Pow.{pow-mono}
 use borrow.Author.Tests.{eq-eqb, ne-eqb}
 use Rattle.scan.specs.Scan.{pick}
 use Rattle.scan.specs.Laws.{true-false}
@@ -21,7 +22,7 @@ use Rattle.paths.specs.Mesh.{width}
 use Rattle.cube.specs.Cube as cube
 use Rattle.cube.specs.Sizes.{known-most}
 use Rattle.two.specs.Two as two
-use Rattle.two.specs.Parts.{known-bounds, longest-few}
+use Rattle.two.specs.Parts.{known-bounds, longest-few, relays-few}
 use Rattle.hops.specs.Ways.{distance}
 use Rattle.mesh.specs.Kinds.{Kind, cubes, twos, others, CUBE, TWO, kindOf, known}
 use Rattle.mesh.specs.Says.{requestAgainst, distanceTold}
@@ -67,14 +68,22 @@ module _ (k n : ℕ) (h : known k n ≡ true) where
   pub known-two : k ≢ CUBE → two.known n ≡ true
   known-two ne = not-cube (λ (K : Kind). K .known n) ne ∙ h
 
-  pub known-small : Small n (kindOf k)
-  known-small = go (ℕ-discrete k CUBE)
+  -- what holds of the cubes and of the two-level meshes that there are holds of it
+  known-either : (P : Kind → Type 0) → (cube.known n ≡ true → P cubes) → (two.known n ≡ true → P twos) → P (kindOf k)
+  known-either P c t = go (ℕ-discrete k CUBE)
     where
-      go : Dec (k ≡ CUBE) → Small n (kindOf k)
-      go (yes e) = let most = known-most n refl (known-cube e) in subst (Small n) (as-cube (λ K. K) e) (most, omega arith)
-      go (no ne) =
-          let most = known-bounds n (known-two ne) .1 in
-          subst (Small n) (not-cube (λ K. K) ne) (omega arith, omega (arith, longest-few n most))
+      go : Dec (k ≡ CUBE) → P (kindOf k)
+      go (yes e) = subst P (as-cube (λ K. K) e) (c (known-cube e))
+      go (no ne) = subst P (not-cube (λ K. K) ne) (t (known-two ne))
+
+  pub known-small : Small n (kindOf k)
+  known-small = known-either (Small n)
+      (λ h. let most = known-most n refl h in (most, omega arith))
+      (λ h. let most = known-bounds n h .1 in (omega arith, omega (arith, longest-few n most)))
+
+  -- a relay's number takes 37 bits at most
+  pub known-relays : kindOf k .mesh n .relays ≤ 2 ^ 37
+  known-relays = known-either (λ (K : Kind). K .mesh n .relays ≤ 2 ^ 37) (λ h. pow-mono {j = 37} (omega (arith, known-most n refl h))) (λ h. relays-few n (known-bounds n h .1))
 
 -- ---- a request
 

@@ -11,3 +11,15 @@ pub mod Running
 pub mod Taking
 pub mod Bodied
 pub mod Heads
+pub mod Cases
+pub mod Unique
+pub mod Lent
+pub mod Lengths
+pub mod There
+pub mod Judging
+pub mod Accepted
+pub mod Again
+pub mod Fits
+pub mod TripsRead
+pub mod TripsWrite
+pub mod Trips

@@ -27,7 +27,7 @@ use Rattle.sheet.specs.declared.Flaw.the-variants as flaw
 use Rattle.sheet.specs.declared.Written.{Written}
 use Rattle.sheet.specs.declared.Written.the-variants as written
 
-pathsFrom-length : (w : ℕ) (places counts : List ℕ) (i n : ℕ) → length (pathsFrom w places counts i n) ≡ n
+pub pathsFrom-length : (w : ℕ) (places counts : List ℕ) (i n : ℕ) → length (pathsFrom w places counts i n) ≡ n
 unfolding pathsFrom
 pathsFrom-length w places counts i zero = refl
 pathsFrom-length w places counts i (suc n) = ap suc (pathsFrom-length w places counts (suc i) n)

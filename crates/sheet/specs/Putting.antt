@@ -261,7 +261,7 @@ head-length kind size s k n =
 
 -- the sheet is its head and its paths
 module _ (kind size s : ℕ) (ps : List (List ℕ)) where
-  body-length : length (bodyOf kind size s ps) ≡ length (pathsBytes ps) + 12
+  pub body-length : length (bodyOf kind size s ps) ≡ length (pathsBytes ps) + 12
   unfolding bodyOf
   body-length =
       length-append (fields kind size (length ps) ++ big 8 s) (pathsBytes ps)
