@@ -12,15 +12,9 @@ use lib.ListN.{length, drop}
 use borrow.Author.Tests.{eq-eqb, ne-eqb}
 use Rattle.scan.specs.Scan.{pick}
 use Rattle.paths.specs.Mesh.{width}
-use Rattle.paths.specs.Fan.{Fan}
-use Rattle.paths.specs.Finding.{clean, finding}
-use Rattle.paths.specs.Judged.{clean-fan}
 use Rattle.mesh.specs.Kinds.{kindOf, meshOf}
 use Rattle.mesh.specs.Laws.{known-small}
-use Rattle.mesh.specs.Says.{short}
-use Rattle.mesh.specs.Requests.{Fine, request-passed, room-enough}
-use Rattle.judge.specs.Verdict.{judgeAgainst}
-use Rattle.judge.specs.Numbers.{finding-numbered, rule-zero}
+use Rattle.sheet.specs.Judging.{judged, judged-fine}
 use Rattle.sheet.specs.Says.{settled, tellWritten, sheet, ruled, writeAgainst, Wrote}
 use Rattle.sheet.specs.Total.{Sheeted, Put, putAgainst}
 use Rattle.sheet.specs.declared.Flaw.{Flaw}
@@ -37,30 +31,21 @@ module _ (kind size s : ℕ) (targets places counts out : List ℕ) where
 
   -- ---- where the judge says 0
   module _ (z : says ≡ 0) where
-    passed : (judgeAgainst (kindOf kind) size s targets places counts false ≡ none) × (finding (meshOf kind size) s targets places counts ≡ clean)
-    passed = rule-zero (judgeAgainst (kindOf kind) size s targets places counts false) (finding (meshOf kind size) s targets places counts) (finding-numbered (meshOf kind size) s targets places counts) z
-
-    pub written-fan : Fan (meshOf kind size) s targets places counts
-    written-fan = clean-fan (meshOf kind size) s targets places counts (passed .1)
-
-    pub written-fine : Fine (kindOf kind) size s targets × (short (meshOf kind size) k (length places) (length counts) ≡ false)
-    written-fine = request-passed (kindOf kind) size s targets (short (meshOf kind size) k (length places) (length counts)) (passed .0)
-
     pub fan-sheeted : Sheeted kind size k (length places) counts
     fan-sheeted =
-        let fine = written-fine in
-        let small = known-small kind size (fine .0 .known) in
-        let room = room-enough (meshOf kind size) k (length places) (length counts) (fine .1) in
+        let j = judged (kindOf kind) size s targets places counts z in
+        let fine = judged-fine (kindOf kind) size s targets j in
+        let small = known-small kind size (fine .known) in
         record {
-          known = fine .0 .known;
+          known = fine .known;
           paths = record {
             headed = record {
-              few = omega (arith, fine .0 .sound .few, small .0);
-              counted = room .1;
-              short = λ i h. omega (arith, written-fan .path i h .short, small .1);
+              few = omega (arith, fine .sound .few, small .0);
+              counted = j .counted;
+              short = λ i h. omega (arith, j .fan .path i h .short, small .1);
             };
-            room = room .0;
-            within = λ i h. omega (arith, written-fan .path i h .short);
+            room = j .room;
+            within = λ i h. omega (arith, j .fan .path i h .short);
           };
         }
 
