@@ -13,8 +13,8 @@
 #include <set>
 #include <vector>
 
-extern "C" uint64_t gustparsley_cube_plan(uint64_t n, uint64_t source, const uint64_t *targets, size_t k, uint64_t *places, size_t room,
-                                          uint64_t *counts, size_t counted);
+extern "C" uint64_t gustparsley_plan_places(uint64_t kind, uint64_t size, uint64_t source, const uint64_t *targets, size_t k, uint64_t *places,
+                                            size_t room, uint64_t *counts, size_t counted);
 
 namespace {
 
@@ -30,6 +30,10 @@ struct Request {
 struct Fan {
   uint64_t places[kPlaces], counts[kCounts];
 };
+
+uint64_t ours(uint64_t n, uint64_t source, const uint64_t *targets, size_t k, uint64_t *places, size_t room, uint64_t *counts, size_t counted) {
+  return gustparsley_plan_places(1, n, source, targets, k, places, room, counts, counted);
+}
 
 uint64_t call(Plan plan, const Request &q, Fan &fan) {
   return plan(q.n, q.source, q.targets.data(), q.targets.size(), fan.places, kPlaces, fan.counts, kCounts);
@@ -65,7 +69,7 @@ struct Call {
 
 void *run(void *at) {
   const Call *c = static_cast<Call *>(at);
-  if (c->request) call(gustparsley_cube_plan, *c->request, *c->fan);
+  if (c->request) call(ours, *c->request, *c->fan);
   return nullptr;
 }
 
@@ -86,22 +90,22 @@ size_t used(char *stack, size_t size, Call c) {
 
 int main() {
   std::mt19937_64 random(2025);
-  static Fan ours, theirs;
+  static Fan fan, other;
   const size_t size = 1 << 18;
   char *stack = static_cast<char *>(mmap(nullptr, size, PROT_READ | PROT_WRITE, MAP_PRIVATE | MAP_ANONYMOUS, -1, 0));
   for (uint64_t n : {3, 8, 16, 32}) {
     const std::vector<Request> all = requests(n, random);
     double a = 1e99, b = 1e99;
     for (int i = 0; i < 400; ++i) {
-      a = std::min(a, burst(gustparsley_cube_plan, all, ours));
-      b = std::min(b, burst(reference::plan, all, theirs));
+      a = std::min(a, burst(ours, all, fan));
+      b = std::min(b, burst(reference::plan, all, other));
     }
     size_t most = 0;
-    for (const Request &q : all) most = std::max(most, used(stack, size, {&q, &ours}) - used(stack, size, {nullptr, &ours}));
+    for (const Request &q : all) most = std::max(most, used(stack, size, {&q, &fan}) - used(stack, size, {nullptr, &fan}));
     // targets that are nested in one another make the recursion as deep as it can be
     Request deep{n, 0, {}};
     for (uint64_t i = 2; i <= n; ++i) deep.targets.push_back((uint64_t{1} << i) - 1);
-    most = std::max(most, used(stack, size, {&deep, &ours}) - used(stack, size, {nullptr, &ours}));
+    most = std::max(most, used(stack, size, {&deep, &fan}) - used(stack, size, {nullptr, &fan}));
     std::printf("n = k = %2d: Rattle %7.1f ns a fan, C++ %7.1f ns, ratio %.2f; stack %zu bytes\n", static_cast<int>(n), a, b, a / b, most);
   }
 }

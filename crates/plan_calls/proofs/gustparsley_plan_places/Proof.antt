@@ -1,9 +1,9 @@
--- `cube_calls::gustparsley_cube_plan` meets its contract. Assumes nothing.
+-- `plan_calls::gustparsley_plan_places` meets its contract. Assumes nothing.
 use mathlib.Core.Path.{ap, _∙_}
-use Rattle.cube_calls.specs.Called.{numberTold}
+use Rattle.plan_calls.specs.Called.{numberTold}
 use borrow.Author.Needs.{needs}
-use Rattle.cube_calls.proofs.gustparsley_cube_plan.Statement.{statement}
-use Rattle.cube_calls.proofs.gustparsley_cube_plan.Tie as tie
+use Rattle.plan_calls.proofs.gustparsley_plan_places.Statement.{statement}
+use Rattle.plan_calls.proofs.gustparsley_plan_places.Tie as tie
 
 plan-requires : tie.Need-plan-requires
 plan-requires c κs = search needs
@@ -22,6 +22,6 @@ returns c =
     let p = c .before .before .before .before .before .plan .ensures in
     record { told = c .number .ensures ∙ ap numberTold (p .told); answer = _; planned = p }
 
-pub gustparsley-cube-plan-spec : {M : Type 1} → statement M
-gustparsley-cube-plan-spec =
+pub gustparsley-plan-places-spec : {M : Type 1} → statement M
+gustparsley-plan-places-spec =
     tie.close (tie.spec plan-requires number-requires same-length same-length-2 returns)

@@ -1,9 +1,9 @@
--- `cube_calls::gustparsley_cube_plan_through` meets its contract. Assumes nothing.
+-- `plan_calls::gustparsley_cube_plan_through` meets its contract. Assumes nothing.
 use mathlib.Core.Path.{ap, _∙_}
-use Rattle.cube_calls.specs.Called.{numberTold}
+use Rattle.plan_calls.specs.Called.{numberTold}
 use borrow.Author.Needs.{needs}
-use Rattle.cube_calls.proofs.gustparsley_cube_plan_through.Statement.{statement}
-use Rattle.cube_calls.proofs.gustparsley_cube_plan_through.Tie as tie
+use Rattle.plan_calls.proofs.gustparsley_cube_plan_through.Statement.{statement}
+use Rattle.plan_calls.proofs.gustparsley_cube_plan_through.Tie as tie
 
 plan-through-requires : tie.Need-plan-through-requires
 plan-through-requires c κs = search needs

@@ -6,7 +6,9 @@ use mathlib.Core.Option.{Option, none, some}
 use Rattle.answers.specs.Told.{number, against}
 use Rattle.answers.specs.declared.Refusal.{Refusal}
 use Rattle.answers.specs.declared.Checked.{Checked}
-use Rattle.cube_fan.specs.Promise.{Planned, PlannedThrough}
+use Rattle.paths.specs.Mesh.{Mesh}
+use Rattle.cube_fan.specs.Promise.{PlannedThrough}
+use Rattle.two_plan.specs.Promise.{Planned}
 
 -- 0, or the number of the refusal
 abbrev pub numberTold : Option Refusal → ℕ
@@ -14,10 +16,10 @@ numberTold none = 0
 numberTold (some why) = number why
 
 -- r is the number of o, and the slices are as the planner leaves them with some answer
-pub record Called (o : Option Refusal) (n s : ℕ) (targets places counts : List ℕ) (r : ℕ) (places₁ counts₁ : List ℕ) : Type 0 where
+pub record Called (o : Option Refusal) (mesh : Mesh) (s : ℕ) (targets places counts : List ℕ) (r : ℕ) (places₁ counts₁ : List ℕ) : Type 0 where
   pub told : r ≡ numberTold o
   pub answer : Checked
-  pub planned : Planned o n s targets places counts answer places₁ counts₁
+  pub planned : Planned o mesh s targets places counts answer places₁ counts₁
 
 pub record CalledThrough (o : Option Refusal) (n s doors : ℕ) (targets places counts : List ℕ) (r : ℕ) (places₁ counts₁ : List ℕ) : Type 0 where
   pub told : r ≡ numberTold o
