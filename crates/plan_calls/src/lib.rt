@@ -1,9 +1,11 @@
 // The planners over plain numbers, exported: what the benchmark and the tests in C++ call. Each call returns the number of the refusal, or 0.
 ghost use mathlib.Core.Path.{_≡_};
+ghost use mathlib.Core.Bool.{false};
 ghost use lib.ListN.{length};
 ghost use Rattle.answers.specs.Told.{against};
 ghost use Rattle.mesh.specs.Kinds.{kindOf, meshOf};
 ghost use Rattle.mesh.specs.Says.{requestAgainst, short};
+ghost use Rattle.cube.specs.Cube.{cube};
 ghost use Rattle.cube_fan.specs.Promise.{faults, badDoors};
 ghost use Rattle.plan_calls.specs.Called.{numberTold, Called, CalledThrough};
 use answers::Checked;
@@ -34,6 +36,20 @@ pub extern "C" fn gustparsley_plan_places(
 {
     let mesh = Mesh { kind, size };
     number(planner::plan(mesh, source, targets, places, counts))
+}
+
+// `cube_fan::plan` in the cube of n dimensions: the cube's planner alone, for its time and its stack.
+#[no_mangle]
+pub extern "C" fn gustparsley_cube_plan(
+    n: u64,
+    source: u64,
+    targets: &[u64],
+    places: &mut [u64],
+    counts: &mut [u64],
+) -> u64
+    ensures { λ r. ⌜ Called (faults n source (now (targets .entry)) false (now (places .entry)) (now (counts .entry))) (cube n) source (now (targets .entry)) (now (places .entry)) (now (counts .entry)) r (now (places .exit)) (now (counts .exit)) ⌝ }
+{
+    number(cube_fan::plan(Size(n), source, targets, places, counts))
 }
 
 // `cube_fan::plan_through` in the cube of n dimensions.

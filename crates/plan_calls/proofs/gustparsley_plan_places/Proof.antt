@@ -1,6 +1,5 @@
 -- `plan_calls::gustparsley_plan_places` meets its contract. Assumes nothing.
-use mathlib.Core.Path.{ap, _∙_}
-use Rattle.plan_calls.specs.Called.{numberTold}
+use Rattle.plan_calls.specs.Called.{called}
 use borrow.Author.Needs.{needs}
 use Rattle.plan_calls.proofs.gustparsley_plan_places.Statement.{statement}
 use Rattle.plan_calls.proofs.gustparsley_plan_places.Tie as tie
@@ -18,9 +17,7 @@ same-length-2 : tie.Need-same-length-2
 same-length-2 c = search needs
 
 returns : tie.Need-returns
-returns c =
-    let p = c .before .before .before .before .before .plan .ensures in
-    record { told = c .number .ensures ∙ ap numberTold (p .told); answer = _; planned = p }
+returns c = called (c .number .ensures) (c .before .before .before .before .before .plan .ensures)
 
 pub gustparsley-plan-places-spec : {M : Type 1} → statement M
 gustparsley-plan-places-spec =
