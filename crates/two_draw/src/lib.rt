@@ -381,11 +381,13 @@ fn draw(
     let c = two_sort::choose(m, s0, p0, k, blocks, slots);
     let ends = c.ends;
     let gates = c.gates;
-    let ways = two_rows::plan_rows(block_bits(m), s0, c.shut, c.rows, ends);
+    let mut ways = [0u64; 560];
+    two_rows::plan_rows(block_bits(m), s0, c.shut, c.rows, ends, &mut ways);
     let o = two_taken::take_over(m, s0, p0, k, blocks, slots, gates, c.gated, c.reps, &ways);
     let leaves = leaves_of(s0, p0, slots, c, o, k, &ways);
     let walkers = walkers_of(leaves, p0, k);
-    let heads = two_rows::plan_rows(dimensions(m), p0 as u64, 0, walkers, leaves);
+    let mut heads = [0u64; 560];
+    two_rows::plan_rows(dimensions(m), p0 as u64, 0, walkers, leaves, &mut heads);
     write_paths(
         m,
         s0,

@@ -134,7 +134,8 @@ pub fn plan(m: u32, source: u64, targets: &[u64], w: usize, places: &mut [u64], 
     let p0 = two::slot_of(order, source).0;
     let to = slots_of(order, targets);
     let size = grid::pow(m);
-    let grid = two_rows::plan_rows(size - 1, p0, 0, size - 1, to);
+    let mut grid = [0u64; 560];
+    two_rows::plan_rows(size - 1, p0, 0, size - 1, to, &mut grid);
     let s = find(&grid, m as usize, to[m as usize]);
     let mut j: usize = 0;
     while j <= m as usize {

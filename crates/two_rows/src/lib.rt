@@ -18,12 +18,10 @@ fn start_rows(set: u64, to: [u64; 16], grid: &mut [u64])
 }
 
 // Paths from s to the targets of the set, in the dimensions `free`, through doors that are not shut: that of j in row j.
-pub fn plan_rows(free: u64, s: u64, shut: u64, set: u64, to: [u64; 16]) -> [u64; 560]
-    requires { ⌜ Ask free s shut set to ⌝ }
-    ensures { λ r. ⌜ Gives free s shut set to r ⌝ }
+pub fn plan_rows(free: u64, s: u64, shut: u64, set: u64, to: [u64; 16], grid: &mut [u64])
+    requires { ⌜ Ask free s shut set to × (length (now grid) ≡ 560) ⌝ }
+    ensures { λ _. ⌜ Gives free s shut set to (now (grid .exit)) ⌝ }
 {
-    let mut grid = [0u64; 560];
-    start_rows(set, to, &mut grid);
-    cube_plan::plan(free, s, shut, set, 35, &mut grid);
-    grid
+    start_rows(set, to, grid);
+    cube_plan::plan(free, s, shut, set, 35, grid);
 }
