@@ -1,9 +1,8 @@
--- `cube_calls::gustparsley_cube_plan_through` meets its contract. Assumes nothing.
-use mathlib.Core.Path.{ap, _∙_}
-use Rattle.cube_calls.specs.Called.{numberTold}
+-- `plan_calls::gustparsley_cube_plan_through` meets its contract. Assumes nothing.
+use Rattle.plan_calls.specs.Called.{called-through}
 use borrow.Author.Needs.{needs}
-use Rattle.cube_calls.proofs.gustparsley_cube_plan_through.Statement.{statement}
-use Rattle.cube_calls.proofs.gustparsley_cube_plan_through.Tie as tie
+use Rattle.plan_calls.proofs.gustparsley_cube_plan_through.Statement.{statement}
+use Rattle.plan_calls.proofs.gustparsley_cube_plan_through.Tie as tie
 
 plan-through-requires : tie.Need-plan-through-requires
 plan-through-requires c κs = search needs
@@ -18,9 +17,7 @@ same-length-2 : tie.Need-same-length-2
 same-length-2 c = search needs
 
 returns : tie.Need-returns
-returns c =
-    let p = c .before .before .before .before .before .plan-through .ensures in
-    record { told = c .number .ensures ∙ ap numberTold (p .planned .told); answer = _; planned = p }
+returns c = called-through (c .number .ensures) (c .before .before .before .before .before .plan-through .ensures)
 
 pub gustparsley-cube-plan-through-spec : {M : Type 1} → statement M
 gustparsley-cube-plan-through-spec =
