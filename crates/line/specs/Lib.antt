@@ -1,0 +1,7 @@
+-- A request line read, and an answer written.
+pub mod Text
+pub mod Parse
+pub mod Lines
+pub mod Reads
+pub mod Says
+pub mod Asks
