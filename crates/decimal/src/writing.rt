@@ -1,15 +1,13 @@
 // A number written as its numeral.
-ghost use mathlib.Core.Path.{_≡_};
 ghost use Prim.Native.Nat.{_+_, _≤_};
 ghost use lib.ListN.{length};
-ghost use lib.Seq.{sets};
 ghost use Rattle.decimal.specs.Digits.{digits};
+ghost use Rattle.decimal.specs.Write.{Put};
 
 // Writes the digits of n from a place on, and answers the place after them: 207 at 3 takes the places 3, 4 and 5.
 pub fn put(out: &mut [u8], at: usize, n: u64) -> usize
     requires { ⌜ at + length (digits n) ≤ length (now out) ⌝ }
-    ensures place { λ r. ⌜ r ≡ at + length (digits n) ⌝ }
-    ensures wrote { λ r. ⌜ now (out .exit) ≡ sets (now (out .entry)) at (digits n) ⌝ }
+    ensures { λ r. ⌜ Put (now (out .entry)) at (digits n) r (now (out .exit)) ⌝ }
 {
     if n < 10 {
         out[at] = 48 + n as u8;

@@ -5,3 +5,6 @@ pub mod Lines
 pub mod Reads
 pub mod Says
 pub mod Asks
+pub mod Written
+pub mod Writes
+pub mod Rooms

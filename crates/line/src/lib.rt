@@ -1,9 +1,12 @@
 // The request line read, and the answer written, as text.
 mod reading;
+mod writing;
 
 use answers::Refusal;
 use mesh::Mesh;
 pub use reading::read;
+pub use writing::write_fan;
+pub use writing::write_refusal;
 
 // What a line asks for: a fan in a mesh, from a source to so many targets.
 pub struct Asked {

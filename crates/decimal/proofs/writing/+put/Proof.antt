@@ -53,18 +53,18 @@ put-add-out-2 t c = search needs
 
 put-slice-write-out-2 :
     (t : ℕ) → put-lts.Need-slice-write-out-2 (put-below t, put.Post) (put-at t) put.Post
-put-slice-write-out-2 t c = last-room _ _ _ _ (c .before .before .before .before .if1 .left) (c .before .before .before .before .before .before .pre .1) (c .before .before .put .ensures .0) (c .before .before .put .ensures .1)
+put-slice-write-out-2 t c = last-room _ _ _ (c .before .before .put .ensures) (c .before .before .before .before .if1 .left) (c .before .before .before .before .before .before .pre .1)
 
 put-add-result-2 : (t : ℕ) → put-lts.Need-add-result-2 (put-below t, put.Post) (put-at t) put.Post
-put-add-result-2 t c = let h = last-room (c .before .before .before .before .before .before .args .out .now) _ _ _ (c .before .before .before .before .if1 .left) (c .before .before .before .before .before .before .pre .1) (c .before .before .put .ensures .0) (c .before .before .put .ensures .1) in
+put-add-result-2 t c = let h = last-room (c .before .before .before .before .before .before .args .out .now) _ _ (c .before .before .put .ensures) (c .before .before .before .before .if1 .left) (c .before .before .before .before .before .before .pre .1) in
     omega arith
 
 put-same-length-2 :
     (t : ℕ) → put-lts.Need-same-length-2 (put-below t, put.Post) (put-at t) put.Post
-put-same-length-2 t c = put-long (c .before .before .before .before .before .before .args .out .now) (c .before .before .before .before .before .before .args .at) (c .before .before .before .before .before .before .args .n) _ _ _ (c .before .before .put .ensures .1)
+put-same-length-2 t c = simp length-set (put-long (c .before .before .put .ensures))
 
 put-returns-2 : (t : ℕ) → put-lts.Need-returns-2 (put-below t, put.Post) (put-at t) put.Post
-put-returns-2 t c = put-more _ _ _ _ (c .before .before .before .before .if1 .left) (c .before .before .put .ensures .0) (c .before .before .put .ensures .1)
+put-returns-2 t c = put-more _ _ _ (c .before .before .put .ensures) (c .before .before .before .before .if1 .left)
 
 pub +put-spec : {M : Type 1} → statement M
 +put-spec =
