@@ -1,20 +1,20 @@
 -- What the reader of a line owes at each of its ends: no request, too few places, a request. Assumes nothing.
-use Prim.Native.Nat.{ℕ, suc, _+_, _≤_, _<_, min}
+use Prim.Native.Nat.{ℕ, _+_, _≤_, _<_, min}
 use mathlib.Core.Path.{_≡_, refl, sym, ap, _∙_, subst}
 use mathlib.Core.Bool.{Bool, true, false}
-use mathlib.Core.Option.{Option, none, some}
+use mathlib.Core.Option.{Option, some}
 use mathlib.Core.List.{List, _++_}
 use native.Mathlib.Omega.{arith}
 use native.Mathlib.Decide.{decLe}
 use lib.Dec.{ltb}
-use lib.ListN.{length, getD, take, drop, length-drop, length-take}
+use lib.ListN.{length, getD, take, drop, length-drop}
 use lib.Seq.{take-all, length-take-le}
 use borrow.Author.Tests.{lt-ltb, le-ltb}
 use Rattle.answers.specs.Order.{first}
 use Rattle.answers.specs.Told.{Told, told, tell, leaves}
 use Rattle.line.specs.Text.{Request, mostBytes}
 use Rattle.line.specs.Parse.{parse, asked}
-use Rattle.line.specs.Says.{Head, head, noHead, targetsOf, headOf, lineFaults, askedTold, askedLeaves}
+use Rattle.line.specs.Says.{Head, head, noHead, headOf, lineFaults, askedTold, askedLeaves}
 use Rattle.line.specs.Reads.{requestIn, parsedTold, ParsedWithin, ReadRequest}
 use Rattle.line.specs.declared.reading.Parsed as code-parsed
 use Rattle.line.specs.declared.reading.Parsed.the-variants as prs

@@ -13,7 +13,7 @@ use Rattle.scan.specs.Scan.{pick}
 use Rattle.scan.specs.Laws.{true-or, true-false}
 use Rattle.mesh.specs.Kinds.{CUBE, TWO}
 use Rattle.decimal.specs.Number.{Number, bad, got, number, more}
-use Rattle.line.specs.Text.{Request, cubeWord, twoWord, word, numbers, mostTargets, mostBytes}
+use Rattle.line.specs.Text.{Request, cubeWord, twoWord, mostTargets, mostBytes}
 
 -- ---- the reading
 

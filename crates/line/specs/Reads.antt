@@ -18,7 +18,7 @@ use Rattle.decimal.specs.declared.Number as code-number
 use Rattle.decimal.specs.declared.Number.the-variants as num
 use Rattle.mesh.specs.Kinds.{CUBE, TWO}
 use Rattle.line.specs.Text.{Request, cubeWord, twoWord, mostTargets}
-use Rattle.line.specs.Parse.{Field, end, broken, item, fieldOf, field, onField, fields, requestOf, begins, begins-sound, after, parse, field-end, field-space, field-other, field-none, fields-end, fields-broken, fields-more, fields-full}
+use Rattle.line.specs.Parse.{Field, end, broken, item, fieldOf, field, fields, requestOf, begins, begins-sound, after, parse, field-end, field-space, field-other, field-none, fields-end, fields-broken, fields-more, fields-full}
 use Rattle.line.specs.declared.reading.Field as code-field
 use Rattle.line.specs.declared.reading.Field.the-variants as fld
 use Rattle.line.specs.declared.reading.Fields as code-fields

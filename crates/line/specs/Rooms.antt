@@ -1,17 +1,17 @@
 -- Whether there is room for an answer, test by test as code goes through them, and what is told and left then. Assumes nothing.
-use Prim.Native.Nat.{ℕ, zero, suc, _+_, _-_, _*_, _/_, _≤_, _<_}
-use mathlib.Core.Path.{_≡_, refl, sym, ap, _∙_, subst}
+use Prim.Native.Nat.{ℕ, suc, _+_, _-_, _*_, _/_, _≤_, _<_}
+use mathlib.Core.Path.{_≡_, refl, sym, ap, _∙_}
 use mathlib.Core.Bool.{Bool, true, false}
-use mathlib.Core.Logic.{_≢_, ⊎-elim}
+use mathlib.Core.Logic.{_≢_}
 use mathlib.Core.List.{List, [], _∷_, _++_}
 use native.Mathlib.Omega.{arith}
 use native.Mathlib.Decide.{decLt}
 use native.Mathlib.Nat.{le-div-iff-mul-le, div-lt-iff-lt-mul}
 use lib.Dec.{leb, ltb}
-use lib.ListN.{length, getD, drop}
-use borrow.Author.Tests.{ltb-false, ltb-true, lt-ltb, le-ltb, le-leb, lt-leb, leb-false}
+use lib.ListN.{length, getD}
+use borrow.Author.Tests.{ltb-false, lt-ltb, le-ltb, le-leb, lt-leb, leb-false}
 use Rattle.scan.specs.Scan.{pick, any}
-use Rattle.scan.specs.Laws.{true-or, true-false, any-false, true-any, false-any, Passed}
+use Rattle.scan.specs.Laws.{true-false, any-false, true-any, false-any, Passed}
 use Rattle.answers.specs.Told.{number, place, told}
 use Rattle.answers.specs.declared.Refusal.{Refusal}
 use Rattle.paths.specs.Fan.{hops}

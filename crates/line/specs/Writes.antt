@@ -1,14 +1,13 @@
 -- Answers written piece by piece: numbers after spaces, words, paths; and how long their text is at most. Assumes nothing.
-use Prim.Native.Nat.{ℕ, zero, suc, _+_, _-_, _*_, _/_, _≤_, _<_}
+use Prim.Native.Nat.{ℕ, zero, suc, _+_, _-_, _*_, _≤_, _<_}
 use mathlib.Core.Path.{_≡_, refl, sym, ap, _∙_, subst}
-use mathlib.Core.Bool.{Bool, true, false}
 use mathlib.Core.List.{List, [], _∷_, _++_, append-assoc, append-nil}
 use native.Mathlib.Omega.{arith}
 use native.Mathlib.Numerals.{add-one}
 use native.Mathlib.Nat.{mul-le-mul-right, add-zero, add-suc}
 use borrow.Author.Tests.{leb-false}
-use lib.ListN.{length, getD, set, take, drop, length-append, length-take, length-drop, take-append-drop}
-use lib.Seq.{take-suc, take-length, take-all, sets-eq, getD-drop}
+use lib.ListN.{length, getD, set, take, drop, length-append, length-take, take-append-drop}
+use lib.Seq.{take-suc, take-all, sets-eq, getD-drop}
 use Rattle.decimal.specs.Digits.{digits, digits-short}
 use Rattle.decimal.specs.Number.{limit}
 use Rattle.decimal.specs.Write.{Put, put-long, put-none, put-then, put-byte, put-as}
@@ -17,7 +16,7 @@ use Rattle.answers.specs.Told.{number, place}
 use Rattle.answers.specs.Laws.{number-below}
 use Rattle.answers.specs.declared.Refusal.{Refusal}
 use Rattle.line.specs.Text.{spaced, lineEnd}
-use Rattle.line.specs.Written.{fanWord, refusedWord, relaysOf, pathText, pathsText, fanText, refusedText, fanRoom, refusedRoom}
+use Rattle.line.specs.Written.{fanWord, relaysOf, pathText, pathsText, fanText, refusedText, fanRoom, refusedRoom}
 
 -- ---- numbers after spaces
 

@@ -1,8 +1,7 @@
 -- `line::reading::all_fields` meets its contract: the invariant is that the rest of the text is read to the same end (`Listing`). Assumes nothing.
 use native.Mathlib.Omega.{arith}
 use Prim.Native.Nat.{_-_}
-use lib.ListN.{length, length-set}
-use mathlib.Core.Path.{_∙_}
+use lib.ListN.{length}
 use Rattle.line.specs.Reads.{Listing, as-field, listing-start, listing-ends, listing-breaks, listing-full, listing-more, listing-past}
 use borrow.Author.Needs.{needs}
 use Rattle.line.proofs.reading.all_fields.Statement.{statement}

@@ -1,5 +1,4 @@
 -- `line::reading::begins` meets its contract: the invariant is that all before a place is the same (`Matching`). Assumes nothing.
-use native.Mathlib.Omega.{arith}
 use Prim.Native.Nat.{_-_}
 use lib.ListN.{length}
 use Rattle.line.specs.Reads.{Matching, shorter, matching-start, matching-more, matching-not, matching-all}

@@ -1,7 +1,5 @@
 -- `line::reading::copy` meets its contract: the invariant is what is copied and what is not yet (`Copying`). Assumes nothing.
-use native.Mathlib.Omega.{arith}
 use Prim.Native.Nat.{_-_}
-use lib.ListN.{length}
 use Rattle.line.specs.Reads.{Copying, copying-start, copying-more, copying-all}
 use borrow.Author.Needs.{needs}
 use Rattle.line.proofs.reading.copy.Statement.{statement}

@@ -3,7 +3,6 @@ use mathlib.Core.List.{_++_}
 use Rattle.decimal.specs.Write.{put-long, put-then}
 use Rattle.line.specs.Text.{spaced, lineEnd}
 use Rattle.line.specs.Writes.{first-room, then-room}
-use borrow.Author.Needs.{needs}
 use Rattle.line.proofs.writing.put_head.Statement.{statement}
 use Rattle.line.proofs.writing.put_head.Tie as tie
 

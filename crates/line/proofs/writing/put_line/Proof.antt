@@ -3,7 +3,6 @@ use native.Mathlib.Omega.{arith}
 use Rattle.decimal.specs.Write.{put-long}
 use Rattle.line.specs.Text.{spaced, lineEnd}
 use Rattle.line.specs.Writes.{first-room, end-room, end-put}
-use borrow.Author.Needs.{needs}
 use Rattle.line.proofs.writing.put_line.Statement.{statement}
 use Rattle.line.proofs.writing.put_line.Tie as tie
 

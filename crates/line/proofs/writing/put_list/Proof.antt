@@ -1,7 +1,6 @@
 -- `line::writing::put_list` meets its contract: the invariant is the part of the list that is written (`Listing`). Assumes nothing.
 use Prim.Native.Nat.{_-_}
 use lib.ListN.{length}
-use native.Mathlib.Omega.{arith}
 use Rattle.decimal.specs.Write.{put-long}
 use Rattle.line.specs.Writes.{Listing, list-start, list-room, list-more, list-all}
 use borrow.Author.Needs.{needs}

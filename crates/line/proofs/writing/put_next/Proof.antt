@@ -1,5 +1,4 @@
 -- `line::writing::put_next` meets its contract: a space, then the digits. Assumes nothing.
-use mathlib.Core.Path.{_∙_}
 use Rattle.decimal.specs.Write.{put-long}
 use Rattle.line.specs.Writes.{next-room, next-put}
 use borrow.Author.Needs.{needs}

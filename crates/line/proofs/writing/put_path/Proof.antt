@@ -4,7 +4,6 @@ use Rattle.decimal.specs.Write.{put-long, put-then}
 use Rattle.line.specs.Text.{spaced, lineEnd}
 use Rattle.decimal.specs.Digits.{digits}
 use Rattle.line.specs.Writes.{first-room, then-room}
-use borrow.Author.Needs.{needs}
 use Rattle.line.proofs.writing.put_path.Statement.{statement}
 use Rattle.line.proofs.writing.put_path.Tie as tie
 

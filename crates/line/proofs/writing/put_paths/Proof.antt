@@ -1,7 +1,6 @@
 -- `line::writing::put_paths` meets its contract: the invariant is how many paths are written (`Pathing`). Assumes nothing.
 use native.Mathlib.Omega.{arith}
 use Prim.Native.Nat.{_-_}
-use mathlib.Core.Path.{refl}
 use Rattle.decimal.specs.Write.{put-long}
 use Rattle.line.specs.Writes.{Pathing, row-within, paths-start, path-room, path-more, paths-all}
 use borrow.Author.Needs.{needs}

@@ -1,7 +1,6 @@
 -- `line::writing::put_word` meets its contract: the invariant is the part of the word that is written (`Wording`). Assumes nothing.
 use Prim.Native.Nat.{_-_}
 use lib.ListN.{length}
-use native.Mathlib.Omega.{arith}
 use Rattle.decimal.specs.Write.{put-long}
 use Rattle.line.specs.Writes.{Wording, word-start, word-room, word-more, word-all}
 use borrow.Author.Needs.{needs}

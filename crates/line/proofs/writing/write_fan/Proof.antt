@@ -1,5 +1,4 @@
 -- `line::writing::write_fan` meets its contract: where nothing wants, the head and the paths are written one after the other. Assumes nothing.
-use mathlib.Core.List.{_++_}
 use Rattle.decimal.specs.Write.{put-long, put-then}
 use Rattle.line.specs.Written.{fanText}
 use Rattle.line.specs.Rooms.{roomy, fan-fits, head-room, paths-room, written-not, written}

@@ -1,11 +1,9 @@
 -- `line::writing::write_refusal` meets its contract: where there is room, the word and the two numbers are written. Assumes nothing.
-use Rattle.line.specs.Rooms.{refusal-text, refusal-fits, refusal-room}
-use Rattle.decimal.specs.Write.{put-as}
+use Rattle.line.specs.Rooms.{refusal-text, refusal-fits, refusal-room, written-not, written}
+use Rattle.decimal.specs.Write.{put-as, put-long}
 use mathlib.Core.Path.{refl, sym}
 use borrow.Author.Tests.{lt-ltb, le-ltb}
-use Rattle.decimal.specs.Write.{put-long}
 use Rattle.line.specs.Written.{refusedText}
-use Rattle.line.specs.Rooms.{written-not, written}
 use borrow.Author.Needs.{needs}
 use Rattle.line.proofs.writing.write_refusal.Statement.{statement}
 use Rattle.line.proofs.writing.write_refusal.Tie as tie
