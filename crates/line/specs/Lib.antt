@@ -8,3 +8,4 @@ pub mod Asks
 pub mod Written
 pub mod Writes
 pub mod Rooms
+pub mod Unique

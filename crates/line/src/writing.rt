@@ -171,6 +171,8 @@ pub fn write_refusal(why: Refusal, out: &mut [u8]) -> Answer
     if out.len() < 50 {
         return Answer::Refused(Refusal::NoRoom);
     }
-    let numbers = [why.number(), why.place() as u64];
+    let number = why.number();
+    let place = why.place() as u64;
+    let numbers = [number, place];
     Answer::Value(put_head(out, b"refused", &numbers) as u64)
 }

@@ -3,3 +3,4 @@ pub mod Replies
 pub mod Sizes
 pub mod Laws
 pub mod Lines
+pub mod Unique
