@@ -104,7 +104,8 @@ on-within text i e = go (decLt i (length text))
     go (yes h) = h
     go (no ne) = absurd (true-false e (on-end text i (omega arith)))
 
-next-byte : (text : List ℕ) (i : ℕ) → i < length text → drop i text ≡ getD text i 0 ∷ drop (i + 1) text
+-- the text from a place on, by its first byte
+pub next-byte : (text : List ℕ) (i : ℕ) → i < length text → drop i text ≡ getD text i 0 ∷ drop (i + 1) text
 next-byte text i h = drop-cons text i 0 h ∙ ap (λ (n : ℕ). getD text i 0 ∷ drop n text) (sym (add-one i))
 
 -- ---- digits read by a loop, which has come to i with v

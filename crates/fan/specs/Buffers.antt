@@ -5,14 +5,18 @@ use mathlib.Core.Path.{_≡_, sym, ap, _∙_}
 use mathlib.Core.Bool.{Bool, true, false}
 use mathlib.Core.List.{List}
 use native.Mathlib.Omega.{arith}
-use lib.Dec.{ltb}
-use lib.ListN.{length, take, drop, length-append, length-take, length-drop}
+use lib.Dec.{eqb, ltb}
+use lib.ListN.{length, getD, take, drop, length-append, length-take, length-drop}
 use lib.Seq.{length-take-le}
 use borrow.Rule.Slice.PartMut.{putMid, midOf, same-len-mid}
 use Rattle.answers.specs.Told.{numberOf, valueOf, answerTold}
 use Rattle.answers.specs.declared.Answer.{Answer}
 use Rattle.answers.specs.declared.Answer.the-variants as answer
 use Rattle.reply.specs.Replies.{Answered, AnsweredIn, replyRoom}
+
+-- a line end stands at a place
+abbrev pub isEnd : List ℕ → ℕ → Bool
+isEnd text i = eqb (getD text i 0) 10
 
 module _ (n : ℕ) (buf last : List ℕ) (within : n ≤ length buf) (kept : length last ≡ length (midOf n (length buf - n) buf)) where
   pub read-long : length (putMid n (length buf - n) buf last) ≡ length buf

@@ -1,6 +1,9 @@
 // The program `fan`: reads a request line from standard input and writes its answer to standard output, as soon as the line end has come.
+ghost use mathlib.Core.Path.{_≡_};
 ghost use Prim.Native.Nat.{_≤_};
 ghost use lib.ListN.{length};
+ghost use Rattle.scan.specs.Scan.{any};
+ghost use Rattle.fan.specs.Buffers.{isEnd};
 use answers::Answer;
 
 // The longest line, with its line end.
@@ -15,7 +18,9 @@ fn read_some(buf: &mut [u8]) -> usize
 }
 
 // Whether a line end stands in a text.
-fn has_end(text: &[u8]) -> bool {
+fn has_end(text: &[u8]) -> bool
+    ensures { λ r. ⌜ r ≡ any (isEnd (now (text .entry))) 0 (length (now (text .entry))) ⌝ }
+{
     let mut i: usize = 0;
     while i < text.len() {
         if text[i] == b'\n' {

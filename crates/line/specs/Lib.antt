@@ -3,6 +3,7 @@ pub mod Text
 pub mod Parse
 pub mod Lines
 pub mod Reads
+pub mod Copies
 pub mod Says
 pub mod Asks
 pub mod Written

@@ -86,7 +86,7 @@ asked-complete text q l =
 not-some : {A B : Type 0} {a : A} → none ≡ some a → B
 not-some e = let z : _≡_ {A = ℕ} 0 1 = cc in absurd (omega arith)
 
-same-some : {A : Type 0} {a b : A} → some a ≡ some b → a ≡ b
+pub same-some : {A : Type 0} {a b : A} → some a ≡ some b → a ≡ b
 same-some e = cc
 
 -- a field that is a number

@@ -55,12 +55,12 @@ module _ (was : List ℕ) (at n : ℕ) where
 
 -- ---- a list of numbers
 
-pub record Listing (was : List ℕ) (at : ℕ) (list : List ℕ) (i p : ℕ) (now : List ℕ) : Type 0 where
+pub record Putting (was : List ℕ) (at : ℕ) (list : List ℕ) (i p : ℕ) (now : List ℕ) : Type 0 where
   pub within : i ≤ length list
   pub put : Put was at (spaced (take i list)) p now
 
 module _ (was : List ℕ) (at : ℕ) (list : List ℕ) where
-  pub list-start : Listing was at list 0 at was
+  pub list-start : Putting was at list 0 at was
   unfolding spaced
   list-start = record { within = omega arith; put = put-none was at }
 
@@ -71,12 +71,12 @@ module _ (was : List ℕ) (at : ℕ) (list : List ℕ) where
   part-long : (i : ℕ) → length (spaced (take i list)) ≤ length (spaced list)
   part-long i = omega (arith, ap length (ap spaced (sym (take-append-drop i list)) ∙ spaced-append (take i list) (drop i list)), length-append (spaced (take i list)) (spaced (drop i list)))
 
-  module _ {i p : ℕ} {now : List ℕ} (l : Listing was at list i p now) where
+  module _ {i p : ℕ} {now : List ℕ} (l : Putting was at list i p now) where
     pub list-room : i < length list → at + length (spaced list) ≤ length was → p + length (spaced (getD list i 0 ∷ [])) ≤ length now
     list-room h g =
         omega (arith, part-long (i + 1), ap length (one-more i h), length-append (spaced (take i list)) (spaced (getD list i 0 ∷ [])), l .put .place, put-long (l .put))
 
-    pub list-more : {q : ℕ} {then : List ℕ} → i < length list → Put now p (spaced (getD list i 0 ∷ [])) q then → Listing was at list (i + 1) q then
+    pub list-more : {q : ℕ} {then : List ℕ} → i < length list → Put now p (spaced (getD list i 0 ∷ [])) q then → Putting was at list (i + 1) q then
     list-more h w = record { within = omega arith; put = put-as (sym (one-more i h)) (put-then (l .put) w) }
 
     pub list-all : length list ≤ i → Put was at (spaced list) p now

@@ -27,8 +27,8 @@ use Rattle.reply.specs.Replies.{Answers, AnsweredIn, Answered, Replied, 
 use Rattle.reply.specs.Laws.{Ruling}
 
 -- the request that is told and left
-abbrev pub requestIn : Asked → List ℕ → Request
-requestIn a targets = record { kind = a .mesh .kind; size = a .mesh .size; source = a .source; targets = take (a .count) targets }
+abbrev pub statedBy : Asked → List ℕ → Request
+statedBy a targets = record { kind = a .mesh .kind; size = a .mesh .size; source = a .source; targets = take (a .count) targets }
 
 -- 10 and place 0 are told of nothing else
 unreadable-is : (why : Refusal) → number why ≡ 10 → place why ≡ 0 → why ≡ Unreadable
@@ -70,7 +70,7 @@ module _ (text was now : List ℕ) (long : length was ≡ 64) (l : Line) (t : li
 
   pub record Reads (a : Asked) : Type 0 where
     pub within : a .count ≤ length now
-    pub is : asked text ≡ some (requestIn a now)
+    pub is : asked text ≡ some (statedBy a now)
 
   pub line-request : {a : Asked} → l ≡ line.Request a → Reads a
   unfolding kindIn sizeIn sourceIn countIn

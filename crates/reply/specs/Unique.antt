@@ -15,6 +15,7 @@ use Rattle.answers.specs.declared.Refusal.the-variants.{Unreadable}
 use Rattle.mesh.specs.Kinds.{meshOf}
 use Rattle.line.specs.Text.{Request}
 use Rattle.line.specs.Parse.{asked}
+use Rattle.line.specs.Lines.{same-some}
 use Rattle.line.specs.Written.{refusedText}
 use Rattle.reply.specs.Replies.{Ruled, faultOf, Answers, Said, replyRoom, Replied, AnsweredIn, Answered}
 
@@ -22,9 +23,6 @@ use Rattle.reply.specs.Replies.{Ruled, faultOf, Answers, Said, replyRoom
 abbrev pub faultIn : Option Request → Option Refusal
 faultIn none = some Unreadable
 faultIn (some q) = faultOf (q .kind) (q .size) (q .source) (q .targets)
-
-same-some : {a b : Refusal} → some a ≡ some b → a ≡ b
-same-some e = cc
 
 refused-said : (o : Option Request) (why : Refusal) (said : List ℕ) → faultIn o ≡ some why → Answers o said → said ≡ refusedText why
 refused-said none why said e a = a ∙ ap refusedText (same-some e)

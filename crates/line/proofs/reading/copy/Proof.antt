@@ -1,6 +1,6 @@
 -- `line::reading::copy` meets its contract: the invariant is what is copied and what is not yet (`Copying`). Assumes nothing.
 use Prim.Native.Nat.{_-_}
-use Rattle.line.specs.Reads.{Copying, copying-start, copying-more, copying-all}
+use Rattle.line.specs.Copies.{Copying, copying-start, copying-more, copying-all}
 use borrow.Author.Needs.{needs}
 use Rattle.line.proofs.reading.copy.Statement.{statement}
 use Rattle.line.proofs.reading.copy.Tie as tie

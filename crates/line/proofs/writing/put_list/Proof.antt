@@ -1,14 +1,14 @@
--- `line::writing::put_list` meets its contract: the invariant is the part of the list that is written (`Listing`). Assumes nothing.
+-- `line::writing::put_list` meets its contract: the invariant is the part of the list that is written (`Putting`). Assumes nothing.
 use Prim.Native.Nat.{_-_}
 use lib.ListN.{length}
 use Rattle.decimal.specs.Write.{put-long}
-use Rattle.line.specs.Writes.{Listing, list-start, list-room, list-more, list-all}
+use Rattle.line.specs.Writes.{Putting, list-start, list-room, list-more, list-all}
 use borrow.Author.Needs.{needs}
 use Rattle.line.proofs.writing.put_list.Statement.{statement}
 use Rattle.line.proofs.writing.put_list.Tie as tie
 
 abbrev Inv-loop : tie.InvT-loop
-Inv-loop out₀ at list p₀ i₀ out p i = Listing out₀ at list i p out
+Inv-loop out₀ at list p₀ i₀ out p i = Putting out₀ at list i p out
 
 abbrev μ-loop : tie.MeasureT-loop
 μ-loop out₀ at list p₀ i₀ out p i = length list - i
