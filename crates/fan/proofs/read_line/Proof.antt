@@ -30,34 +30,52 @@ read-some-requires : tie.Need-read-some-requires Inv-loop μ-loop
 read-some-requires c κs = search needs
 
 same-length : tie.Need-same-length Inv-loop μ-loop
-same-length c = read-long (c .before .before .before .before .before .before .loop .n) (c .before .before .before .before .before .before .loop .buf) (c .before .before .before .read-some .last .0) (c .before .before .before .before .before .before .loop .inv .0) (c .before .before .before .read-some .kept .0) ∙ c .before .before .before .before .before .before .loop .inv .1
+same-length c =
+    let turn = c .before .before .before .before .before .before in
+    read-long (turn .loop .n) (turn .loop .buf) (c .before .before .before .read-some .last .0) (turn .loop .inv .0) (c .before .before .before .read-some .kept .0) ∙ turn .loop .inv .1
 
 returns : tie.Need-returns Inv-loop μ-loop
-returns c = omega (arith, read-long (c .before .before .before .before .before .before .loop .n) (c .before .before .before .before .before .before .loop .buf) (c .before .before .before .read-some .last .0) (c .before .before .before .before .before .before .loop .inv .0) (c .before .before .before .read-some .kept .0))
+returns c =
+    let turn = c .before .before .before .before .before .before in
+    omega (arith, read-long (turn .loop .n) (turn .loop .buf) (c .before .before .before .read-some .last .0) (turn .loop .inv .0) (c .before .before .before .read-some .kept .0))
 
 add-n : tie.Need-add-n Inv-loop μ-loop
-add-n c = omega (arith, read-long (c .before .before .before .before .before .before .loop .n) (c .before .before .before .before .before .before .loop .buf) (c .before .before .before .read-some .last .0) (c .before .before .before .before .before .before .loop .inv .0) (c .before .before .before .read-some .kept .0), read-within (c .before .before .before .before .before .before .loop .n) (c .before .before .before .before .before .before .loop .buf) (c .before .before .before .read-some .last .0) (c .before .before .before .before .before .before .loop .inv .0) (c .before .before .before .read-some .kept .0) (c .before .before .before .read-some .ensures))
+add-n c =
+    let turn = c .before .before .before .before .before .before in
+    omega (arith, read-long (turn .loop .n) (turn .loop .buf) (c .before .before .before .read-some .last .0) (turn .loop .inv .0) (c .before .before .before .read-some .kept .0), read-within (turn .loop .n) (turn .loop .buf) (c .before .before .before .read-some .last .0) (turn .loop .inv .0) (c .before .before .before .read-some .kept .0) (c .before .before .before .read-some .ensures))
 
 slice-reshare-prefix-has-end : tie.Need-slice-reshare-prefix-has-end Inv-loop μ-loop
-slice-reshare-prefix-has-end c = read-within (c .before .before .before .before .before .before .loop .n) (c .before .before .before .before .before .before .loop .buf) (c .before .before .before .read-some .last .0) (c .before .before .before .before .before .before .loop .inv .0) (c .before .before .before .read-some .kept .0) (c .before .before .before .read-some .ensures)
+slice-reshare-prefix-has-end c =
+    let turn = c .before .before .before .before .before .before in
+    read-within (turn .loop .n) (turn .loop .buf) (c .before .before .before .read-some .last .0) (turn .loop .inv .0) (c .before .before .before .read-some .kept .0) (c .before .before .before .read-some .ensures)
 
 slice-aggregate-has-end : tie.Need-slice-aggregate-has-end Inv-loop μ-loop
-slice-aggregate-has-end c = part-long _ _ (read-within (c .before .before .before .before .before .before .before .loop .n) (c .before .before .before .before .before .before .before .loop .buf) (c .before .before .before .before .read-some .last .0) (c .before .before .before .before .before .before .before .loop .inv .0) (c .before .before .before .before .read-some .kept .0) (c .before .before .before .before .read-some .ensures))
+slice-aggregate-has-end c =
+    let turn = c .before .before .before .before .before .before .before in
+    part-long _ _ (read-within (turn .loop .n) (turn .loop .buf) (c .before .before .before .before .read-some .last .0) (turn .loop .inv .0) (c .before .before .before .before .read-some .kept .0) (c .before .before .before .before .read-some .ensures))
 
 has-end-requires : tie.Need-has-end-requires Inv-loop μ-loop
 has-end-requires c κs = search needs
 
 same-length-2 : tie.Need-same-length-2 Inv-loop μ-loop
-same-length-2 c = read-long (c .before .before .before .before .before .before .before .before .before .loop .n) (c .before .before .before .before .before .before .before .before .before .loop .buf) (c .before .before .before .before .before .before .read-some .last .0) (c .before .before .before .before .before .before .before .before .before .loop .inv .0) (c .before .before .before .before .before .before .read-some .kept .0) ∙ c .before .before .before .before .before .before .before .before .before .loop .inv .1
+same-length-2 c =
+    let turn = c .before .before .before .before .before .before .before .before .before in
+    read-long (turn .loop .n) (turn .loop .buf) (c .before .before .before .before .before .before .read-some .last .0) (turn .loop .inv .0) (c .before .before .before .before .before .before .read-some .kept .0) ∙ turn .loop .inv .1
 
 returns-2 : tie.Need-returns-2 Inv-loop μ-loop
-returns-2 c = read-within (c .before .before .before .before .before .before .before .before .before .loop .n) (c .before .before .before .before .before .before .before .before .before .loop .buf) (c .before .before .before .before .before .before .read-some .last .0) (c .before .before .before .before .before .before .before .before .before .loop .inv .0) (c .before .before .before .before .before .before .read-some .kept .0) (c .before .before .before .before .before .before .read-some .ensures)
+returns-2 c =
+    let turn = c .before .before .before .before .before .before .before .before .before in
+    read-within (turn .loop .n) (turn .loop .buf) (c .before .before .before .before .before .before .read-some .last .0) (turn .loop .inv .0) (c .before .before .before .before .before .before .read-some .kept .0) (c .before .before .before .before .before .before .read-some .ensures)
 
 loop-less : tie.Need-loop-less Inv-loop μ-loop
-loop-less c = omega (arith, c .before .before .before .if1 .left, read-long (c .before .before .before .before .before .before .before .before .before .loop .n) (c .before .before .before .before .before .before .before .before .before .loop .buf) (c .before .before .before .before .before .before .read-some .last .0) (c .before .before .before .before .before .before .before .before .before .loop .inv .0) (c .before .before .before .before .before .before .read-some .kept .0), read-within (c .before .before .before .before .before .before .before .before .before .loop .n) (c .before .before .before .before .before .before .before .before .before .loop .buf) (c .before .before .before .before .before .before .read-some .last .0) (c .before .before .before .before .before .before .before .before .before .loop .inv .0) (c .before .before .before .before .before .before .read-some .kept .0) (c .before .before .before .before .before .before .read-some .ensures), c .before .before .before .before .before .before .before .before .before .loop .inv)
+loop-less c =
+    let turn = c .before .before .before .before .before .before .before .before .before in
+    omega (arith, c .before .before .before .if1 .left, read-long (turn .loop .n) (turn .loop .buf) (c .before .before .before .before .before .before .read-some .last .0) (turn .loop .inv .0) (c .before .before .before .before .before .before .read-some .kept .0), read-within (turn .loop .n) (turn .loop .buf) (c .before .before .before .before .before .before .read-some .last .0) (turn .loop .inv .0) (c .before .before .before .before .before .before .read-some .kept .0) (c .before .before .before .before .before .before .read-some .ensures), turn .loop .inv)
 
 loop-again : tie.Need-loop-again Inv-loop μ-loop
-loop-again c = (read-within (c .before .before .before .before .before .before .before .before .before .loop .n) (c .before .before .before .before .before .before .before .before .before .loop .buf) (c .before .before .before .before .before .before .read-some .last .0) (c .before .before .before .before .before .before .before .before .before .loop .inv .0) (c .before .before .before .before .before .before .read-some .kept .0) (c .before .before .before .before .before .before .read-some .ensures), read-long (c .before .before .before .before .before .before .before .before .before .loop .n) (c .before .before .before .before .before .before .before .before .before .loop .buf) (c .before .before .before .before .before .before .read-some .last .0) (c .before .before .before .before .before .before .before .before .before .loop .inv .0) (c .before .before .before .before .before .before .read-some .kept .0) ∙ c .before .before .before .before .before .before .before .before .before .loop .inv .1)
+loop-again c =
+    let turn = c .before .before .before .before .before .before .before .before .before in
+    (read-within (turn .loop .n) (turn .loop .buf) (c .before .before .before .before .before .before .read-some .last .0) (turn .loop .inv .0) (c .before .before .before .before .before .before .read-some .kept .0) (c .before .before .before .before .before .before .read-some .ensures), read-long (turn .loop .n) (turn .loop .buf) (c .before .before .before .before .before .before .read-some .last .0) (turn .loop .inv .0) (c .before .before .before .before .before .before .read-some .kept .0) ∙ turn .loop .inv .1)
 
 same-length-3 : tie.Need-same-length-3 Inv-loop μ-loop
 same-length-3 c = c .before .loop .inv .1

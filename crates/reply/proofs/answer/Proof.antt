@@ -9,7 +9,9 @@ use Rattle.reply.proofs.answer.Statement.{statement}
 use Rattle.reply.proofs.answer.Tie as tie
 
 returns : tie.Need-returns
-returns c = reply-short (c .before .before .before .args .text .now) (c .before .before .before .args .out .now) _ (c .if1 .taken) refl refl
+returns c =
+    let start = c .before .before .before in
+    reply-short (start .args .text .now) (start .args .out .now) _ (c .if1 .taken) refl refl
 
 slice-aggregate-read : tie.Need-slice-aggregate-read
 slice-aggregate-read c = search needs
@@ -39,13 +41,17 @@ same-length : tie.Need-same-length
 same-length c = search needs
 
 returns-2 : tie.Need-returns-2
-returns-2 c = reply-refused (c .before .before .before .before .before .before .before .before .before .before .before .before .before .args .text .now) (replicate 64 0) _ refl _ (c .before .before .before .before .before .before .before .before .read .ensures .0) (c .before .before .before .before .before .before .before .before .read .ensures .1) (c .before .before .before .before .before .before .before .before .before .before .before .before .before .args .out .now) (c .before .before .before .before .before .before .before .before .before .before .if1 .left) _ (c .before .before .before .before .before .why .given .1) (refusal-said (c .before .before .before .before .before .why .given .0 .0) (c .before .before .before .before .before .before .before .before .before .before .before .before .before .args .out .now) (c .before .before .before .before .before .before .before .before .before .before .if1 .left) (c .before .before .write-refusal .ensures .0) (c .before .before .write-refusal .ensures .1))
+returns-2 c =
+    let start = c .before .before .before .before .before .before .before .before .before .before .before .before .before in
+    reply-refused (start .args .text .now) (replicate 64 0) _ refl _ (c .before .before .before .before .before .before .before .before .read .ensures .0) (c .before .before .before .before .before .before .before .before .read .ensures .1) (start .args .out .now) (c .before .before .before .before .before .before .before .before .before .before .if1 .left) _ (c .before .before .before .before .before .why .given .1) (refusal-said (c .before .before .before .before .before .why .given .0 .0) (start .args .out .now) (c .before .before .before .before .before .before .before .before .before .before .if1 .left) (c .before .before .write-refusal .ensures .0) (c .before .before .write-refusal .ensures .1))
 
 same-length-2 : tie.Need-same-length-2
 same-length-2 c = search needs
 
 returns-3 : tie.Need-returns-3
-returns-3 c = reply-request (c .before .before .before .before .before .before .before .before .before .before .before .before .before .before .args .text .now) (replicate 64 0) _ refl _ (c .before .before .before .before .before .before .before .before .before .read .ensures .0) (c .before .before .before .before .before .before .before .before .before .read .ensures .1) (c .before .before .before .before .before .before .before .before .before .before .before .before .before .before .args .out .now) (c .before .before .before .before .before .before .before .before .before .before .before .if1 .left) _ (c .before .before .before .before .before .before .asked .given .1) (c .before .before .request .ensures)
+returns-3 c =
+    let start = c .before .before .before .before .before .before .before .before .before .before .before .before .before .before in
+    reply-request (start .args .text .now) (replicate 64 0) _ refl _ (c .before .before .before .before .before .before .before .before .before .read .ensures .0) (c .before .before .before .before .before .before .before .before .before .read .ensures .1) (start .args .out .now) (c .before .before .before .before .before .before .before .before .before .before .before .if1 .left) _ (c .before .before .before .before .before .before .asked .given .1) (c .before .before .request .ensures)
 
 pub answer-spec : {M : Type 1} → statement M
 answer-spec =

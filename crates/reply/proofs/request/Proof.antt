@@ -39,13 +39,17 @@ same-length : tie.Need-same-length
 same-length c = search needs
 
 returns : tie.Need-returns
-returns c = plan-refused _ _ _ _ _ _ refl refl (c .before .before .before .before .before .before .before .before .before .plan .ensures) (c .before .before .before .before .before .why .given .1) (refusal-said (c .before .before .before .before .before .why .given .0 .0) (c .before .before .before .before .before .before .before .before .before .before .before .before .before .before .args .out .now) (c .before .before .before .before .before .before .before .before .before .before .before .before .before .before .pre) (c .before .before .write-refusal .ensures .0) (c .before .before .write-refusal .ensures .1))
+returns c =
+    let start = c .before .before .before .before .before .before .before .before .before .before .before .before .before .before in
+    plan-refused _ _ _ _ _ _ refl refl (c .before .before .before .before .before .before .before .before .before .plan .ensures) (c .before .before .before .before .before .why .given .1) (refusal-said (c .before .before .before .before .before .why .given .0 .0) (start .args .out .now) (start .pre) (c .before .before .write-refusal .ensures .0) (c .before .before .write-refusal .ensures .1))
 
 same-length-2 : tie.Need-same-length-2
 same-length-2 c = search needs
 
 returns-2 : tie.Need-returns-2
-returns-2 c = plan-written _ _ _ _ _ _ refl refl (c .before .before .before .before .before .before .before .before .before .before .before .plan .ensures) (c .before .before .before .before .before .before .before .enum-told .given .1) (c .before .before .before .before .before .before .before .before .before .before .before .before .before .before .before .before .args .out .now) (c .before .before .before .before .before .before .before .before .before .before .before .before .before .before .before .before .pre) (c .before .before .before .before .before .before .places-in .ensures) (c .before .before .write-fan .ensures .0) (c .before .before .write-fan .ensures .1)
+returns-2 c =
+    let start = c .before .before .before .before .before .before .before .before .before .before .before .before .before .before .before .before in
+    plan-written _ _ _ _ _ _ refl refl (c .before .before .before .before .before .before .before .before .before .before .before .plan .ensures) (c .before .before .before .before .before .before .before .enum-told .given .1) (start .args .out .now) (start .pre) (c .before .before .before .before .before .before .places-in .ensures) (c .before .before .write-fan .ensures .0) (c .before .before .write-fan .ensures .1)
 
 pub request-spec : {M : Type 1} → statement M
 request-spec =

@@ -23,10 +23,14 @@ wide-requires : tie.Need-wide-requires
 wide-requires c κs = search needs
 
 sub-more : tie.Need-sub-more
-sub-more c = first-digit (c .before .before .before .before .before .before .args .text .now) (c .before .before .before .before .before .before .args .at) (sym (c .before .before .before .before .on-digit .ensures) ∙ not-false _ (c .before .before .before .if1 .left)) (c .wide .ensures)
+sub-more c =
+    let start = c .before .before .before .before .before .before in
+    first-digit (start .args .text .now) (start .args .at) (sym (c .before .before .before .before .on-digit .ensures) ∙ not-false _ (c .before .before .before .if1 .left)) (c .wide .ensures)
 
 more-requires : tie.Need-more-requires
-more-requires c κs = let h = on-within (c .before .before .before .before .before .before .args .text .now) (c .before .before .before .before .before .before .args .at) (sym (c .before .before .before .before .on-digit .ensures) ∙ not-false _ (c .before .before .before .if1 .left)) in omega arith
+more-requires c κs =
+    let start = c .before .before .before .before .before .before in
+    let h = on-within (start .args .text .now) (start .args .at) (sym (c .before .before .before .before .on-digit .ensures) ∙ not-false _ (c .before .before .before .if1 .left)) in omega arith
 
 returns-2 : tie.Need-returns-2
 returns-2 c = read-first _ _ _ (c .before .wide .ensures) (sym (c .before .before .before .before .before .on-digit .ensures) ∙ not-false _ (c .before .before .before .before .if1 .left)) (c .before .before .if2 .taken) (c .more .ensures)

@@ -43,7 +43,9 @@ put-returns : (t : ℕ) → put-lts.Need-returns (put-below t, put.Post) (put-at
 put-returns t c = put-one _ _ _ (c .if1 .taken)
 
 put-put-requires : (t : ℕ) → put-lts.Need-put-requires (put-below t, put.Post) (put-at t) put.Post
-put-put-requires t c κs = (let less = div-lt-self {n = c .before .before .before .args .n} {k = 10} (omega arith) (omega arith) in omega (arith, c .before .before .before .pre .0), front-room (c .before .before .before .args .out .now) _ _ (c .before .if1 .left) (c .before .before .before .pre .1))
+put-put-requires t c κs =
+    let start = c .before .before .before in
+    (let less = div-lt-self {n = start .args .n} {k = 10} (omega arith) (omega arith) in omega (arith, start .pre .0), front-room (start .args .out .now) _ _ (c .before .if1 .left) (start .pre .1))
 
 put-cast-out-2 : (t : ℕ) → put-lts.Need-cast-out-2 (put-below t, put.Post) (put-at t) put.Post
 put-cast-out-2 t c = search needs
@@ -56,7 +58,9 @@ put-slice-write-out-2 :
 put-slice-write-out-2 t c = last-room _ _ _ (c .before .before .put .ensures) (c .before .before .before .before .if1 .left) (c .before .before .before .before .before .before .pre .1)
 
 put-add-result-2 : (t : ℕ) → put-lts.Need-add-result-2 (put-below t, put.Post) (put-at t) put.Post
-put-add-result-2 t c = let h = last-room (c .before .before .before .before .before .before .args .out .now) _ _ (c .before .before .put .ensures) (c .before .before .before .before .if1 .left) (c .before .before .before .before .before .before .pre .1) in
+put-add-result-2 t c =
+    let start = c .before .before .before .before .before .before in
+    let h = last-room (start .args .out .now) _ _ (c .before .before .put .ensures) (c .before .before .before .before .if1 .left) (start .pre .1) in
     omega arith
 
 put-same-length-2 :

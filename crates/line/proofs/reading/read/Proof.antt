@@ -23,16 +23,22 @@ enum-told : tie.Need-enum-told
 enum-told c = search needs
 
 returns : tie.Need-returns
-returns c = asks-nothing (c .before .before .before .before .before .before .before .before .before .args .text .now) _ (c .before .before .before .before .before .before .before .before .before .args .targets .now) (c .before .before .before .before .before .before .least .ensures) (c .before .before .before .parse .ensures) (c .enum-told .given .1)
+returns c =
+    let start = c .before .before .before .before .before .before .before .before .before in
+    asks-nothing (start .args .text .now) _ (start .args .targets .now) (c .before .before .before .before .before .before .least .ensures) (c .before .before .before .parse .ensures) (c .enum-told .given .1)
 
 returns-2 : tie.Need-returns-2
-returns-2 c = asks-short (c .before .before .before .before .before .before .before .before .before .before .before .args .text .now) _ (c .before .before .before .before .before .before .before .before .before .before .before .args .targets .now) (c .before .before .before .before .before .before .before .before .least .ensures) (c .before .before .before .before .before .parse .ensures) (c .before .before .kind .given .1) (c .if1 .taken)
+returns-2 c =
+    let start = c .before .before .before .before .before .before .before .before .before .before .before in
+    asks-short (start .args .text .now) _ (start .args .targets .now) (c .before .before .before .before .before .before .before .before .least .ensures) (c .before .before .before .before .before .parse .ensures) (c .before .before .kind .given .1) (c .if1 .taken)
 
 slice-aggregate-copy : tie.Need-slice-aggregate-copy
 slice-aggregate-copy c = search needs
 
 copy-requires : tie.Need-copy-requires
-copy-requires c κs = asks-room (c .before .before .before .before .before .before .before .before .before .before .before .before .before .args .text .now) _ (c .before .before .before .before .before .before .before .before .before .before .before .before .before .args .targets .now) (c .before .before .before .before .before .before .before .before .before .before .least .ensures) (c .before .before .before .before .before .before .before .parse .ensures) (c .before .before .before .before .kind .given .1) (c .before .before .if1 .left)
+copy-requires c κs =
+    let start = c .before .before .before .before .before .before .before .before .before .before .before .before .before in
+    asks-room (start .args .text .now) _ (start .args .targets .now) (c .before .before .before .before .before .before .before .before .before .before .least .ensures) (c .before .before .before .before .before .before .before .parse .ensures) (c .before .before .before .before .kind .given .1) (c .before .before .if1 .left)
 
 array-read-t23 : tie.Need-array-read-t23
 array-read-t23 c = search needs
@@ -44,7 +50,9 @@ same-length : tie.Need-same-length
 same-length c = search needs
 
 returns-3 : tie.Need-returns-3
-returns-3 c = asks-fine (c .before .before .before .before .before .before .before .before .before .before .before .before .before .before .before .before .args .text .now) _ (c .before .before .before .before .before .before .before .before .before .before .before .before .before .before .before .before .args .targets .now) (c .before .before .before .before .before .before .before .before .before .before .before .before .before .least .ensures) (c .before .before .before .before .before .before .before .before .before .before .parse .ensures) (c .before .before .before .before .before .before .before .kind .given .1) (c .before .before .before .before .before .if1 .left) (c .before .before .copy .ensures)
+returns-3 c =
+    let start = c .before .before .before .before .before .before .before .before .before .before .before .before .before .before .before .before in
+    asks-fine (start .args .text .now) _ (start .args .targets .now) (c .before .before .before .before .before .before .before .before .before .before .before .before .before .least .ensures) (c .before .before .before .before .before .before .before .before .before .before .parse .ensures) (c .before .before .before .before .before .before .before .kind .given .1) (c .before .before .before .before .before .if1 .left) (c .before .before .copy .ensures)
 
 pub read-spec : {M : Type 1} → statement M
 read-spec =

@@ -7,10 +7,14 @@ use Rattle.line.proofs.writing.put_head.Statement.{statement}
 use Rattle.line.proofs.writing.put_head.Tie as tie
 
 put-word-requires : tie.Need-put-word-requires
-put-word-requires c κs = first-room (c .before .before .before .before .args .out .now) 0 (c .before .before .before .before .args .word .now) (spaced (c .before .before .before .before .args .numbers .now) ++ lineEnd) (c .before .before .before .before .pre)
+put-word-requires c κs =
+    let start = c .before .before .before .before in
+    first-room (start .args .out .now) 0 (start .args .word .now) (spaced (start .args .numbers .now) ++ lineEnd) (start .pre)
 
 put-line-requires : tie.Need-put-line-requires
-put-line-requires c κs = then-room (c .before .before .before .before .before .before .before .before .args .word .now) (spaced (c .before .before .before .before .before .before .before .before .args .numbers .now) ++ lineEnd) (c .before .before .before .put-word .ensures) (c .before .before .before .before .before .before .before .before .pre)
+put-line-requires c κs =
+    let start = c .before .before .before .before .before .before .before .before in
+    then-room (start .args .word .now) (spaced (start .args .numbers .now) ++ lineEnd) (c .before .before .before .put-word .ensures) (start .pre)
 
 same-length : tie.Need-same-length
 same-length c = put-long (put-then (c .before .before .before .before .before .before .put-word .ensures) (c .before .before .put-line .ensures))

@@ -7,13 +7,17 @@ use Rattle.line.proofs.writing.put_line.Statement.{statement}
 use Rattle.line.proofs.writing.put_line.Tie as tie
 
 put-list-requires : tie.Need-put-list-requires
-put-list-requires c κs = first-room (c .before .before .before .args .out .now) (c .before .before .before .args .at) (spaced (c .before .before .before .args .list .now)) lineEnd (c .before .before .before .pre)
+put-list-requires c κs =
+    let start = c .before .before .before in
+    first-room (start .args .out .now) (start .args .at) (spaced (start .args .list .now)) lineEnd (start .pre)
 
 slice-write-out : tie.Need-slice-write-out
 slice-write-out c = end-room _ (c .before .before .put-list .ensures) (c .before .before .before .before .before .before .pre)
 
 add-result : tie.Need-add-result
-add-result c = let h = end-room (c .before .before .before .before .before .before .args .list .now) (c .before .before .put-list .ensures) (c .before .before .before .before .before .before .pre) in omega arith
+add-result c =
+    let start = c .before .before .before .before .before .before in
+    let h = end-room (start .args .list .now) (c .before .before .put-list .ensures) (start .pre) in omega arith
 
 same-length : tie.Need-same-length
 same-length c = put-long (end-put _ (c .before .before .put-list .ensures))

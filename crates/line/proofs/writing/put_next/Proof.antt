@@ -15,10 +15,14 @@ put-requires : tie.Need-put-requires
 put-requires c κs = next-room (c .before .before .args .out .now) (c .before .before .args .at) (c .before .before .args .n) (c .before .before .pre) .1
 
 same-length : tie.Need-same-length
-same-length c = put-long (next-put (c .before .before .before .before .before .args .out .now) (c .before .before .before .before .before .args .at) (c .before .before .before .before .before .args .n) (c .before .before .put .ensures))
+same-length c =
+    let start = c .before .before .before .before .before in
+    put-long (next-put (start .args .out .now) (start .args .at) (start .args .n) (c .before .before .put .ensures))
 
 returns : tie.Need-returns
-returns c = next-put (c .before .before .before .before .before .args .out .now) (c .before .before .before .before .before .args .at) (c .before .before .before .before .before .args .n) (c .before .before .put .ensures)
+returns c =
+    let start = c .before .before .before .before .before in
+    next-put (start .args .out .now) (start .args .at) (start .args .n) (c .before .before .put .ensures)
 
 pub put-next-spec : {M : Type 1} → statement M
 put-next-spec = tie.close (tie.spec slice-write-out add-put put-requires same-length returns)

@@ -8,10 +8,14 @@ use Rattle.line.proofs.writing.put_path.Statement.{statement}
 use Rattle.line.proofs.writing.put_path.Tie as tie
 
 put-requires : tie.Need-put-requires
-put-requires c κs = first-room (c .before .before .before .args .out .now) (c .before .before .before .args .at) (digits (c .before .before .before .args .hops)) (spaced (c .before .before .before .args .relays .now) ++ lineEnd) (c .before .before .before .pre)
+put-requires c κs =
+    let start = c .before .before .before in
+    first-room (start .args .out .now) (start .args .at) (digits (start .args .hops)) (spaced (start .args .relays .now) ++ lineEnd) (start .pre)
 
 put-line-requires : tie.Need-put-line-requires
-put-line-requires c κs = then-room (digits (c .before .before .before .before .before .before .before .args .hops)) (spaced (c .before .before .before .before .before .before .before .args .relays .now) ++ lineEnd) (c .before .before .before .put .ensures) (c .before .before .before .before .before .before .before .pre)
+put-line-requires c κs =
+    let start = c .before .before .before .before .before .before .before in
+    then-room (digits (start .args .hops)) (spaced (start .args .relays .now) ++ lineEnd) (c .before .before .before .put .ensures) (start .pre)
 
 same-length : tie.Need-same-length
 same-length c = put-long (put-then (c .before .before .before .before .before .before .put .ensures) (c .before .before .put-line .ensures))

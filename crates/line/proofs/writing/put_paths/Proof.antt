@@ -44,7 +44,9 @@ part-put-path-end : tie.Need-part-put-path-end Inv-loop μ-loop
 part-put-path-end c = let h = row-within (c .before .before .before .before .before .before .before .pre .0) (c .before .before .loop-test .taken) in omega arith
 
 put-path-requires : tie.Need-put-path-requires Inv-loop μ-loop
-put-path-requires c κs = path-room (c .before .before .before .before .before .before .before .before .args .w) (c .before .before .before .before .before .before .before .before .args .places .now) (c .before .before .before .before .before .before .before .before .args .counts .now) (c .before .before .before .before .before .before .before .before .args .out .now) (c .before .before .before .before .before .before .before .before .args .at) (c .before .before .before .before .before .before .before .before .args .k) (c .before .before .before .before .loop .inv) (c .before .before .before .loop-test .taken) (c .before .before .before .before .before .before .before .before .pre .1)
+put-path-requires c κs =
+    let start = c .before .before .before .before .before .before .before .before in
+    path-room (start .args .w) (start .args .places .now) (start .args .counts .now) (start .args .out .now) (start .args .at) (start .args .k) (c .before .before .before .before .loop .inv) (c .before .before .before .loop-test .taken) (start .pre .1)
 
 add-i : tie.Need-add-i Inv-loop μ-loop
 add-i c = search needs
@@ -53,13 +55,17 @@ loop-less : tie.Need-loop-less Inv-loop μ-loop
 loop-less c = search needs
 
 loop-again : tie.Need-loop-again Inv-loop μ-loop
-loop-again c = path-more (c .before .before .before .before .before .before .before .before .before .before .before .args .w) (c .before .before .before .before .before .before .before .before .before .before .before .args .places .now) (c .before .before .before .before .before .before .before .before .before .before .before .args .counts .now) (c .before .before .before .before .before .before .before .before .before .before .before .args .out .now) (c .before .before .before .before .before .before .before .before .before .before .before .args .at) (c .before .before .before .before .before .before .before .before .before .before .before .args .k) (c .before .before .before .before .before .before .before .loop .inv) (c .before .before .before .before .before .before .loop-test .taken) (c .before .before .put-path .ensures)
+loop-again c =
+    let start = c .before .before .before .before .before .before .before .before .before .before .before in
+    path-more (start .args .w) (start .args .places .now) (start .args .counts .now) (start .args .out .now) (start .args .at) (start .args .k) (c .before .before .before .before .before .before .before .loop .inv) (c .before .before .before .before .before .before .loop-test .taken) (c .before .before .put-path .ensures)
 
 same-length : tie.Need-same-length Inv-loop μ-loop
 same-length c = put-long (c .before .loop .inv .put)
 
 returns : tie.Need-returns Inv-loop μ-loop
-returns c = paths-all (c .before .before .before .before .before .args .w) (c .before .before .before .before .before .args .places .now) (c .before .before .before .before .before .args .counts .now) (c .before .before .before .before .before .args .out .now) (c .before .before .before .before .before .args .at) (c .before .before .before .before .before .args .k) (c .before .loop .inv) (c .loop-test .left)
+returns c =
+    let start = c .before .before .before .before .before in
+    paths-all (start .args .w) (start .args .places .now) (start .args .counts .now) (start .args .out .now) (start .args .at) (start .args .k) (c .before .loop .inv) (c .loop-test .left)
 
 pub put-paths-spec : {M : Type 1} → statement M
 put-paths-spec =

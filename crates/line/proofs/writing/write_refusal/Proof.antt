@@ -24,13 +24,17 @@ slice-aggregate-put-head-2 : tie.Need-slice-aggregate-put-head-2
 slice-aggregate-put-head-2 c = search needs
 
 put-head-requires : tie.Need-put-head-requires
-put-head-requires c κs = refusal-room (c .before .before .before .before .before .before .before .args .why) (c .before .before .before .before .before .before .before .args .out .now) (c .before .before .before .before .number .ensures) (c .before .before .before .place .ensures) (c .before .before .before .place .ok) (c .before .before .before .before .before .if1 .left)
+put-head-requires c κs =
+    let start = c .before .before .before .before .before .before .before in
+    refusal-room (start .args .why) (start .args .out .now) (c .before .before .before .before .number .ensures) (c .before .before .before .place .ensures) (c .before .before .before .place .ok) (c .before .before .before .before .before .if1 .left)
 
 same-length : tie.Need-same-length
 same-length c = put-long (c .before .before .put-head .ensures)
 
 returns-2 : tie.Need-returns-2
-returns-2 c = written (refusedText (c .before .before .before .before .before .before .before .before .before .before .args .why)) (c .before .before .before .before .before .before .before .before .before .before .args .out .now) (sym (le-ltb _ _ (c .before .before .before .before .before .before .before .before .if1 .left))) refl (refusal-fits (c .before .before .before .before .before .before .before .before .before .before .args .why) (c .before .before .before .before .before .before .before .before .before .before .args .out .now) (c .before .before .before .before .before .before .before .number .ensures) (c .before .before .before .before .before .before .place .ensures) (c .before .before .before .before .before .before .place .ok) (c .before .before .before .before .before .before .before .before .if1 .left)) (put-as (refusal-text (c .before .before .before .before .before .before .before .before .before .before .args .why) (c .before .before .before .before .before .before .before .before .before .before .args .out .now) (c .before .before .before .before .before .before .before .number .ensures) (c .before .before .before .before .before .before .place .ensures)) (c .before .before .put-head .ensures))
+returns-2 c =
+    let start = c .before .before .before .before .before .before .before .before .before .before in
+    written (refusedText (start .args .why)) (start .args .out .now) (sym (le-ltb _ _ (c .before .before .before .before .before .before .before .before .if1 .left))) refl (refusal-fits (start .args .why) (start .args .out .now) (c .before .before .before .before .before .before .before .number .ensures) (c .before .before .before .before .before .before .place .ensures) (c .before .before .before .before .before .before .place .ok) (c .before .before .before .before .before .before .before .before .if1 .left)) (put-as (refusal-text (start .args .why) (start .args .out .now) (c .before .before .before .before .before .before .before .number .ensures) (c .before .before .before .before .before .before .place .ensures)) (c .before .before .put-head .ensures))
 
 pub write-refusal-spec : {M : Type 1} → statement M
 write-refusal-spec =
