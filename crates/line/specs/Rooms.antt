@@ -15,7 +15,7 @@ use Rattle.scan.specs.Laws.{true-false, any-false, true-any, false-any, Passed}
 use Rattle.answers.specs.Told.{number, place, told}
 use Rattle.answers.specs.declared.Refusal.{Refusal}
 use Rattle.paths.specs.Fan.{hops}
-use Rattle.decimal.specs.Write.{Put}
+use Rattle.decimal.specs.Write.{Put, put-then, put-as}
 use Rattle.decimal.specs.Number.{limit}
 use Rattle.line.specs.Text.{spaced, lineEnd}
 use Rattle.line.specs.Written.{fanWord, refusedWord, pathsText, fanText, refusedText, overlong, fanRoom, wanting, writeTold, writeLeaves}
@@ -130,9 +130,14 @@ module _ (k w : ℕ) (places counts : List ℕ) (bytes : ℕ) where
 abbrev pub headText : ℕ → List ℕ
 headText k = fanWord ++ (spaced (one k) ++ lineEnd)
 
+-- a text at the front of a list that has room for it
+pub record Front (was text : List ℕ) (p : ℕ) (now : List ℕ) : Type 0 where
+  pub fits : 0 + length text ≤ length was
+  pub put : Put was 0 text p now
+
 module _ (k w : ℕ) (places counts was : List ℕ) (room : Roomy k w places counts (length was))
     (small : (i : ℕ) → getD places i 0 < limit) (few : (i : ℕ) → getD counts i 0 < limit) (fits : k < limit) where
-  pub fan-fits : 0 + length (fanText k w places counts) ≤ length was
+  fan-fits : 0 + length (fanText k w places counts) ≤ length was
   fan-fits = omega (arith, fan-short w places counts small few k fits (room .rows .below), room .bytes-for)
 
   pub head-room : 0 + length (headText k) ≤ length was
@@ -141,17 +146,23 @@ module _ (k w : ℕ) (places counts was : List ℕ) (room : Roomy k w places cou
   pub paths-room : {p : ℕ} {now : List ℕ} → Put was 0 (headText k) p now → Rows k w places counts × (p + length (pathsText w places counts k) ≤ length now)
   paths-room v = (room .rows, then-room (headText k) (pathsText w places counts k) v fan-fits)
 
+  pub fan-put : {p q : ℕ} {mid now : List ℕ} → Put was 0 (headText k) p mid → Put mid p (pathsText w places counts k) q now → Front was (fanText k w places counts) q now
+  fan-put u v = record { fits = fan-fits; put = put-then u v }
+
 -- ---- the text of a refusal
 
 module _ (why : Refusal) (was : List ℕ) {n p : ℕ} (e : n ≡ number why) (f : p ≡ place why) where
-  pub refusal-text : refusedWord ++ (spaced (n ∷ p ∷ []) ++ lineEnd) ≡ refusedText why
+  refusal-text : refusedWord ++ (spaced (n ∷ p ∷ []) ++ lineEnd) ≡ refusedText why
   refusal-text = ap (λ (x : ℕ). refusedWord ++ (spaced (x ∷ p ∷ []) ++ lineEnd)) e ∙ ap (λ (x : ℕ). refusedWord ++ (spaced (number why ∷ x ∷ []) ++ lineEnd)) f
 
-  pub refusal-fits : p < limit → 50 ≤ length was → 0 + length (refusedText why) ≤ length was
+  refusal-fits : p < limit → 50 ≤ length was → 0 + length (refusedText why) ≤ length was
   refusal-fits h g = omega (arith, refused-short why (omega arith))
 
   pub refusal-room : p < limit → 50 ≤ length was → 0 + length (refusedWord ++ (spaced (n ∷ p ∷ []) ++ lineEnd)) ≤ length was
   refusal-room h g = omega (arith, refusal-fits h g, ap length refusal-text)
+
+  pub refusal-put : {q : ℕ} {now : List ℕ} → p < limit → 50 ≤ length was → Put was 0 (refusedWord ++ (spaced (n ∷ p ∷ []) ++ lineEnd)) q now → Front was (refusedText why) q now
+  refusal-put h g w = record { fits = refusal-fits h g; put = put-as refusal-text w }
 
 -- ---- what is told and left
 
@@ -159,7 +170,7 @@ module _ (text was : List ℕ) {r short : Bool} (e : r ≡ short) where
   pub written-not : r ≡ true → (told 8 0 0 ≡ writeTold short text) × (was ≡ writeLeaves short text was)
   written-not t = (ap (λ (b : Bool). writeTold b text) (sym t ∙ e), ap (λ (b : Bool). writeLeaves b text was) (sym t ∙ e))
 
-  pub written : {p : ℕ} {now : List ℕ} → r ≡ false → 0 + length text ≤ length was → Put was 0 text p now → (told 0 0 p ≡ writeTold short text) × (now ≡ writeLeaves short text was)
-  written f h w =
-      let q = put-front (omega arith) w in
+  pub written : {p : ℕ} {now : List ℕ} → r ≡ false → Front was text p now → (told 0 0 p ≡ writeTold short text) × (now ≡ writeLeaves short text was)
+  written f w =
+      let q = put-front (omega (arith, w .fits)) (w .put) in
       (ap (told 0 0) (q .0) ∙ ap (λ (b : Bool). writeTold b text) (sym f ∙ e), q .1 ∙ ap (λ (b : Bool). writeLeaves b text was) (sym f ∙ e))

@@ -1,5 +1,4 @@
 -- Two answers of the reader that tell the same are the same (`line-told-unique`): so its promise leaves one answer. Assumes nothing.
-use Prim.Native.Nat.{ℕ}
 use mathlib.Core.Path.{_≡_, refl, sym, ap, _∙_}
 use mathlib.Core.Bool.{Bool}
 use lib.Dec.{eqb}

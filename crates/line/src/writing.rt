@@ -10,6 +10,7 @@ ghost use Rattle.scan.specs.Scan.{any};
 ghost use Rattle.decimal.specs.Write.{Put};
 ghost use Rattle.line.specs.Text.{spaced, lineEnd};
 ghost use Rattle.line.specs.Written as specs;
+ghost use Rattle.line.specs.Rooms.{Roomy, Front};
 ghost use Rattle.line.specs.Writes.{one, Rows};
 use answers::Answer;
 use answers::Refusal;
@@ -147,6 +148,16 @@ fn wanting(k: usize, w: usize, places: &[u64], counts: &[u64], bytes: usize) -> 
     short(bytes, k, w)
 }
 
+// `fan k` and the lines of its paths, at the front.
+fn put_fan(out: &mut [u8], k: usize, w: usize, places: &[u64], counts: &[u64]) -> usize
+    requires { ⌜ Roomy k w (now places) (now counts) (length (now out)) ⌝ }
+    ensures { λ r. ⌜ Front (now (out .entry)) (specs.fanText k w (now (places .entry)) (now (counts .entry))) r (now (out .exit)) ⌝ }
+{
+    let numbers = [k as u64];
+    let p = put_head(out, b"fan", &numbers);
+    put_paths(out, p, k, w, places, counts)
+}
+
 // Writes `fan k` and the k paths that stand in `places` and `counts`, each in w places, as text at the front of `out`, and answers how many bytes: a line for
 // each path with its hops and then all its relays. Of the paths 0, 2, 3 and 0, 1 it is `fan 2`, `2 0 2 3` and `1 0 1`. Refuses with 8 where there are fewer
 // than k counts, k * w places or `fanRoom` bytes, or where a path is longer than its places; a refusal changes nothing.
@@ -157,9 +168,7 @@ pub fn write_fan(k: usize, w: usize, places: &[u64], counts: &[u64], out: &mut [
     if wanting(k, w, places, counts, out.len()) {
         return Answer::Refused(Refusal::NoRoom);
     }
-    let numbers = [k as u64];
-    let p = put_head(out, b"fan", &numbers);
-    Answer::Value(put_paths(out, p, k, w, places, counts) as u64)
+    Answer::Value(put_fan(out, k, w, places, counts) as u64)
 }
 
 // Writes `refused N P`, the number and the place of a refusal, as text at the front of `out`, and answers how many bytes: for a target at place 1 that is the

@@ -1,9 +1,9 @@
 -- `line::writing::write_refusal` meets its contract: where there is room, the word and the two numbers are written. Assumes nothing.
-use Rattle.line.specs.Rooms.{refusal-text, refusal-fits, refusal-room, written-not, written}
-use Rattle.decimal.specs.Write.{put-as, put-long}
 use mathlib.Core.Path.{refl, sym}
 use borrow.Author.Tests.{lt-ltb, le-ltb}
+use Rattle.decimal.specs.Write.{put-long}
 use Rattle.line.specs.Written.{refusedText}
+use Rattle.line.specs.Rooms.{refusal-room, refusal-put, written-not, written}
 use borrow.Author.Needs.{needs}
 use Rattle.line.proofs.writing.write_refusal.Statement.{statement}
 use Rattle.line.proofs.writing.write_refusal.Tie as tie
@@ -34,7 +34,7 @@ same-length c = put-long (c .before .before .put-head .ensures)
 returns-2 : tie.Need-returns-2
 returns-2 c =
     let start = c .before .before .before .before .before .before .before .before .before .before in
-    written (refusedText (start .args .why)) (start .args .out .now) (sym (le-ltb _ _ (c .before .before .before .before .before .before .before .before .if1 .left))) refl (refusal-fits (start .args .why) (start .args .out .now) (c .before .before .before .before .before .before .before .number .ensures) (c .before .before .before .before .before .before .place .ensures) (c .before .before .before .before .before .before .place .ok) (c .before .before .before .before .before .before .before .before .if1 .left)) (put-as (refusal-text (start .args .why) (start .args .out .now) (c .before .before .before .before .before .before .before .number .ensures) (c .before .before .before .before .before .before .place .ensures)) (c .before .before .put-head .ensures))
+    written (refusedText (start .args .why)) (start .args .out .now) (sym (le-ltb _ _ (c .before .before .before .before .before .before .before .before .if1 .left))) refl (refusal-put (start .args .why) (start .args .out .now) (c .before .before .before .before .before .before .before .number .ensures) (c .before .before .before .before .before .before .place .ensures) (c .before .before .before .before .before .before .place .ok) (c .before .before .before .before .before .before .before .before .if1 .left) (c .before .before .put-head .ensures))
 
 pub write-refusal-spec : {M : Type 1} → statement M
 write-refusal-spec =
