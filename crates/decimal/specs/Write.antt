@@ -1,17 +1,13 @@
 -- Text written into a list from a place on (`Put`): one text after another (`put-then`), and the digits of a number (`put-one`, `put-more`).
 -- Assumes nothing.
-use Prim.Native.Nat.{ℕ, suc, _+_, _/_, _%_, _≤_, _<_}
+use Prim.Native.Nat.{ℕ, _+_, _/_, _%_, _≤_, _<_}
 use mathlib.Core.Path.{_≡_, refl, sym, ap, _∙_, subst}
 use mathlib.Core.List.{List, [], _∷_, _++_}
 use native.Mathlib.Omega.{arith}
 use lib.ListN.{length, set, length-append}
 use lib.Seq.{sets, length-sets}
+use Rattle.scan.specs.Runs.{sets-append}
 use Rattle.decimal.specs.Digits.{glyph, digits, digits-one, digits-more}
-
--- a run stored behind another is the two as one run
-pub sets-append : (l : List ℕ) (i : ℕ) (vs ws : List ℕ) → sets l i (vs ++ ws) ≡ sets (sets l i vs) (i + length vs) ws
-sets-append l i [] ws = ap (λ (k : ℕ). sets l k ws) (omega arith)
-sets-append l i (a ∷ vs) ws = sets-append (set l i a) (suc i) vs ws ∙ ap (λ (k : ℕ). sets (sets (set l i a) (suc i) vs) k ws) (omega arith)
 
 -- a text is written into `was` from a place on, which gives `now`; p is the place after it
 pub record Put (was : List ℕ) (at : ℕ) (text : List ℕ) (p : ℕ) (now : List ℕ) : Type 0 where

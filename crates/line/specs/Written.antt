@@ -1,19 +1,16 @@
 -- An answer as text: `fan k` and a line for each path, its hops and then all its relays (`fanText`), or `refused N P` (`refusedText`). What stands against
 -- writing it, and what is told and left. Assumes nothing.
-use Prim.Native.Nat.{ℕ, zero, suc, _+_, _*_, _≤_}
-use mathlib.Core.Path.{_≡_, _∙_}
+use Prim.Native.Nat.{ℕ, zero, suc, _+_, _*_}
 use mathlib.Core.Bool.{Bool, true, false}
 use mathlib.Core.List.{List, [], _∷_, _++_}
 use mathlib.Core.Option.{Option}
 use lib.Dec.{leb, ltb}
-use native.Mathlib.Omega.{arith}
-use lib.ListN.{length, getD, take, drop}
-use lib.Seq.{getD-take, getD-drop}
+use lib.ListN.{length, take, drop}
 use Rattle.scan.specs.Scan.{pick, any}
 use Rattle.answers.specs.Order.{first}
 use Rattle.answers.specs.Told.{Told, tell, leaves, number, place}
 use Rattle.answers.specs.declared.Refusal.{Refusal}
-use Rattle.paths.specs.Fan.{relay, hops}
+use Rattle.paths.specs.Fan.{hops}
 use Rattle.decimal.specs.Digits.{digits}
 use Rattle.line.specs.Text.{spaced, lineEnd}
 use Rattle.line.specs.Says.{lineFaults}
@@ -30,11 +27,6 @@ refusedWord = 114 ∷ 101 ∷ 102 ∷ 117 ∷ 115 ∷ 101 ∷ 100 ∷ []
 -- the relays of path i, the source first, where a path takes w places
 abbrev pub relaysOf : (w : ℕ) (places counts : List ℕ) (i : ℕ) → List ℕ
 relaysOf w places counts i = take (hops counts i + 1) (drop (i * w) places)
-
--- they are the relays of the path, place by place
-pub relays-relay : (w : ℕ) (places counts : List ℕ) (i p : ℕ) → p ≤ hops counts i → getD (relaysOf w places counts i) p 0 ≡ relay w places i p
-unfolding relay
-relays-relay w places counts i p h = getD-take (hops counts i + 1) (drop (i * w) places) p 0 (omega arith) ∙ getD-drop (i * w) places p 0
 
 -- a path's hops and its relays
 abbrev pub pathText : ℕ → List ℕ → List ℕ

@@ -11,7 +11,7 @@ use Rattle.two_write.specs.Row.{hops}
 use Rattle.two_fan.specs.Relays.{Relay, inside, length-inside}
 use Rattle.two_fan.specs.Through.{Crosses, crosses-short}
 use Rattle.two_fan.specs.Numbers.{numbers, numbers-append, length-numbers}
-use Rattle.two_write.specs.Walked.{sets-append}
+use Rattle.scan.specs.Runs.{sets-append}
 use Rattle.two_write.specs.Blocks.{Goes, Ways, Crossed}
 use Rattle.two_write.specs.Slots.{Below, Slotted}
 

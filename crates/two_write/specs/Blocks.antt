@@ -21,7 +21,8 @@ use Rattle.two_fan.specs.Relays.{Relay, inside, length-inside}
 use Rattle.two_fan.specs.Through.{Stroll, Crosses, crosses-short}
 use Rattle.two_fan.specs.Numbers.{numbers, numbers-append, length-numbers}
 use Rattle.two_fan.specs.Loops.{crosses-none, crosses-more, walk-hop, door-of}
-use Rattle.two_write.specs.Walked.{relays, relays-numbers, Walked, sets-append}
+use Rattle.scan.specs.Runs.{sets-append}
+use Rattle.two_write.specs.Walked.{relays, relays-numbers, Walked}
 use Rattle.two_write.specs.Row.{hops}
 
 -- ---- numbers of relays fit
