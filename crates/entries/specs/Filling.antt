@@ -1,15 +1,14 @@
 -- A list of entries being filled from its front, one a turn (`Filling`). Assumes nothing.
 use Prim.Native.Nat.{ℕ, zero, suc, _+_, _-_, _≤_, _<_}
-use mathlib.Core.Path.{_≡_, refl, sym, ap, _∙_}
-use mathlib.Core.Bool.{false}
-use mathlib.Core.List.{List, [], _∷_, _++_, append-assoc}
+use mathlib.Core.Path.{_≡_, refl, ap, _∙_}
+use mathlib.Core.List.{List, _++_, append-assoc}
 use mathlib.Core.WellFounded.{WellFounded, InvImage·wf}
 use native.Mathlib.Numerals.{add-one}
 use native.Mathlib.Omega.{arith}
 use lib.ListN.{length, drop, set, length-set, length-append}
 use lib.Seq.{drop-cons, set-at}
 use lib.WfN.{Nat·lt-wfRel}
-use Rattle.entries.specs.Promise.{entryOf, entries}
+use Rattle.entries.specs.Promise.{entries}
 use Rattle.entries.specs.declared.Entry.{Entry}
 
 pub entries-length : (f : ℕ → Entry) (k : ℕ) → length (entries f k) ≡ k

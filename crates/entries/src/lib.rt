@@ -1,7 +1,6 @@
 // Survivors over one lent list of entries: a thin function over the plain one, which fills three columns of numbers.
 mod gathered;
 
-ghost use mathlib.Core.Path.{_≡_};
 ghost use Rattle.mesh.specs.Kinds.{kindOf};
 ghost use Rattle.entries.specs.Promise.{Listed};
 use mesh::Mesh;

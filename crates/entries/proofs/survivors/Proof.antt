@@ -176,11 +176,12 @@ module _ {M : Type 1} (𝓤 : URA M) (H : Heap 𝓤) (A : Atoms 𝓤) (W : Given
   count-asked : ent 𝓤 (emp 𝓤) (CountC 𝓤 H A mem run .pre to-count)
   count-asked = qed W [] ∵ nothing ! $ owned ! G.the-row (Is G.the-row) (LL.makes G.the-type G′.the-plain 𝓤 H A) g _ is $ fjoin ! $ nothing ! $ join ! $ frame ! $ done !
 
+  -- `told` is passed the same
   abbrev to-told : ToldC 𝓤 H A mem run .Ghost
-  to-told = ((tt, tt, tt, (g, tt), (u ∷ [], tt)), tt)
+  to-told = to-count
 
   told-asked : ent 𝓤 (emp 𝓤) (ToldC 𝓤 H A mem run .pre to-told)
-  told-asked = qed W [] ∵ nothing ! $ owned ! G.the-row (Is G.the-row) (LL.makes G.the-type G′.the-plain 𝓤 H A) g _ is $ fjoin ! $ nothing ! $ join ! $ frame ! $ done !
+  told-asked = count-asked
 
   abbrev to-entry : ℕ → EntryC 𝓤 H A mem run .Ghost
   to-entry i = ((tt, tt, tt, (g, (i, tt)), (u ∷ [], (vint w64 i ∷ [], tt))), tt)
