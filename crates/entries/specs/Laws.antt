@@ -38,16 +38,19 @@ use Rattle.entries.specs.declared.gathered.Gathered.{Gathered}
 
 -- ---- room for 32 is room for all
 
+pub few-alike : (k n : ℕ) → few k n n n ≡ ltb n k
+few-alike k n = go (ltb n k)
+  where
+    go : (b : Bool) → pick b true (pick b true b) ≡ b
+    go true = refl
+    go false = refl
+
 few-capped : (k room : ℕ) → k ≤ 32 → few k (capped room) (capped room) (capped room) ≡ ltb room k
 unfolding capped
-few-capped k room h = go (ltb room 32) refl
+few-capped k room h = few-alike k (pick (ltb room 32) room 32) ∙ go (ltb room 32) refl
   where
-    go : (b : Bool) → ltb room 32 ≡ b → few k (pick b room 32) (pick b room 32) (pick b room 32) ≡ ltb room k
-    go true e = thrice (ltb room k)
-      where
-        thrice : (b : Bool) → pick b true (pick b true b) ≡ b
-        thrice true = refl
-        thrice false = refl
+    go : (b : Bool) → ltb room 32 ≡ b → ltb (pick b room 32) k ≡ ltb room k
+    go true e = refl
     go false e = let l = ltb-false room 32 e in simp (le-ltb 32 k h, le-ltb room k (omega arith))
 
 -- where 1 to 7 stand against a request, room does not matter; else it has no more than 32 targets
