@@ -1,4 +1,4 @@
--- Why the writer keeps its promise: a fan can be written (`fan-sheeted`); what is told by what the judge says (`wrote-fan`, `wrote-short`, `wrote-not`).
+-- Why the writer keeps its promise: a fan can be written (`sheeted-of`, `fan-sheeted`); what is told by what the judge says (`wrote-fan`, `wrote-short`, `wrote-not`).
 -- Assumes nothing.
 use Prim.Native.Nat.{ℕ, _+_, _*_, _≤_, _<_}
 use mathlib.Core.Path.{_≡_, refl, sym, ap, ap₂, _∙_}
@@ -28,6 +28,25 @@ use Rattle.sheet.specs.declared.Flaw.the-variants as flaw
 use Rattle.sheet.specs.declared.Written.{Written}
 use Rattle.sheet.specs.declared.Written.the-variants as written
 
+-- the paths of a fan that stands in slices long enough for it
+pub sheeted-of : (kind size s : ℕ) (targets places counts : List ℕ) → Fan (meshOf kind size) s targets places counts → Fine (kindOf kind) size s targets
+    → short (meshOf kind size) (length targets) (length places) (length counts) ≡ false → Sheeted kind size (length targets) (length places) counts
+sheeted-of kind size s targets places counts fan fine wide =
+    let small = known-small kind size (fine .known) in
+    let room = room-enough (meshOf kind size) (length targets) (length places) (length counts) wide in
+    record {
+      known = fine .known;
+      paths = record {
+        headed = record {
+          few = omega (arith, fine .sound .few, small .0);
+          counted = room .1;
+          short = λ i h. omega (arith, fan .path i h .short, small .1);
+        };
+        room = room .0;
+        within = λ i h. omega (arith, fan .path i h .short);
+      };
+    }
+
 module _ (kind size s : ℕ) (targets places counts out : List ℕ) where
   abbrev k : ℕ
   k = length targets
@@ -47,22 +66,7 @@ module _ (kind size s : ℕ) (targets places counts out : List ℕ) where
     written-fine = request-passed (kindOf kind) size s targets (short (meshOf kind size) k (length places) (length counts)) (passed .0)
 
     pub fan-sheeted : Sheeted kind size k (length places) counts
-    fan-sheeted =
-        let fine = written-fine in
-        let small = known-small kind size (fine .0 .known) in
-        let room = room-enough (meshOf kind size) k (length places) (length counts) (fine .1) in
-        record {
-          known = fine .0 .known;
-          paths = record {
-            headed = record {
-              few = omega (arith, fine .0 .sound .few, small .0);
-              counted = room .1;
-              short = λ i h. omega (arith, written-fan .path i h .short, small .1);
-            };
-            room = room .0;
-            within = λ i h. omega (arith, written-fan .path i h .short);
-          };
-        }
+    fan-sheeted = sheeted-of kind size s targets places counts written-fan (written-fine .0) (written-fine .1)
 
     against-put : putAgainst kind size s k places counts out ≡ writeAgainst kind size s targets places counts out
     against-put =

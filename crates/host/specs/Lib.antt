@@ -1,0 +1,5 @@
+-- What the calls for C and C++ promise, and why they keep it.
+pub mod Says
+pub mod Needs
+pub mod Stepping
+pub mod Planning
