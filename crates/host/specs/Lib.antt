@@ -5,3 +5,4 @@ pub mod Stepping
 pub mod Planning
 pub mod Shapes
 pub mod Unique
+pub mod Trips

@@ -26,7 +26,7 @@ use Rattle.paths.specs.Fan.{Fan}
 use Rattle.mesh.specs.Kinds.{Kind, kindOf, meshOf, known}
 use Rattle.mesh.specs.Laws.{known-small}
 use Rattle.mesh.specs.Says.{requestAgainst, short}
-use Rattle.mesh.specs.Requests.{Fine, request-fine, checked-fine, request-refused, request-short, request-granted}
+use Rattle.mesh.specs.Requests.{Fine, request-fine, checked-fine, request-refused, request-short, request-granted, room-enough}
 use Rattle.two_plan.specs.Promise as planner
 use Rattle.sheet.specs.Format.{relaysAt}
 use Rattle.sheet.specs.Says.{settled, flawed}
@@ -106,9 +106,11 @@ module _ (kind size s : ℕ) (targets : List ℕ) where
     pub lay-fan : Fan (meshOf kind size) s targets places₁ counts₁
     lay-fan = f .fan (ap (requestAgainst (kindOf kind) size s targets) (wide p) ∙ p .clear)
 
+    lay-wide : short (meshOf kind size) (length targets) (length places₁) (length counts₁) ≡ false
+    lay-wide = ap₂ (short (meshOf kind size) (length targets)) (f .as-long) (f .as-long-counts) ∙ wide p
+
     pub lay-sheeted : Sheeted kind size (length targets) (length places₁) counts₁
-    lay-sheeted = sheeted-of kind size s targets places₁ counts₁ lay-fan (request-fine (kindOf kind) size s targets (p .clear))
-        (ap₂ (short (meshOf kind size) (length targets)) (f .as-long) (f .as-long-counts) ∙ wide p)
+    lay-sheeted = sheeted-of kind size s targets places₁ counts₁ lay-fan (request-fine (kindOf kind) size s targets (p .clear)) lay-wide
 
   pub lay-answered : {places counts places₁ counts₁ out out₁ : List ℕ} {r : Checked} {w : Written} → Layable kind size s targets (length places) (length counts) (length out)
       → planner.Planned (requestAgainst (kindOf kind) size s targets (short (meshOf kind size) (length targets) (length places) (length counts))) (meshOf kind size) s targets places counts r places₁ counts₁
@@ -116,11 +118,14 @@ module _ (kind size s : ℕ) (targets : List ℕ) where
   lay-answered {places} {counts} {places₁} {counts₁} {out} {out₁} p f q =
       let sheet = bytes kind size s (length targets) places₁ counts₁ in
       let fan = lay-fan p f in
+      let room = room-enough (meshOf kind size) (length targets) (length places₁) (length counts₁) (lay-wide p f) in
       let fits : length sheet ≤ length out = omega (arith, fan-sheet-most (meshOf kind size) s targets places₁ counts₁ fan kind size, p .long) in
       record {
         places = places₁;
         counts = counts₁;
         fan = fan;
+        placed = room .0;
+        counted = room .1;
         held = q .held ∙ ap (λ (b : Bool). settled (flawed b flaw.NoRoom none) (sheet ++ drop (length sheet) out) out) (le-ltb (length out) (length sheet) fits);
       }
 

@@ -1,5 +1,5 @@
 -- What the calls of the region host tell and leave. A refusal is told as number * 256 + place (`codeOf`), and 0 where nothing stands against the call.
-use Prim.Native.Nat.{ℕ, _+_, _*_, _/_, _%_}
+use Prim.Native.Nat.{ℕ, _+_, _*_, _/_, _%_, _≤_}
 use mathlib.Core.Path.{_≡_}
 use mathlib.Core.Bool.{Bool, false, not}
 use mathlib.Core.List.{List, _++_}
@@ -11,7 +11,7 @@ use Rattle.answers.specs.Order.{Faults, first, refuse, requestFaults}
 use Rattle.answers.specs.Told.{number, place, leaves}
 use Rattle.answers.specs.declared.Refusal.{Refusal}
 use Rattle.answers.specs.declared.Refusal.the-variants.{NoRoom}
-use Rattle.paths.specs.Mesh.{Mesh}
+use Rattle.paths.specs.Mesh.{Mesh, width}
 use Rattle.paths.specs.Fan.{Fan}
 use Rattle.mesh.specs.Kinds.{Kind, kindOf, meshOf}
 use Rattle.mesh.specs.Says.{pairAgainst}
@@ -92,6 +92,8 @@ module _ (kind size s : ℕ) where
     pub places : List ℕ
     pub counts : List ℕ
     pub fan : Fan (meshOf kind size) s targets places counts
+    pub placed : length targets * width (meshOf kind size) ≤ length places
+    pub counted : length targets ≤ length counts
     pub held : out₁ ≡ bytes kind size s (length targets) places counts ++ drop (length (bytes kind size s (length targets) places counts)) out
 
 -- what stands against it is told and then nothing is changed; else the sheet of a fan is written
