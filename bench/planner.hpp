@@ -15,7 +15,12 @@ class Planner {
     for (size_t i = 0; i < k; ++i) target_[i] = targets[i];
   }
 
-  void plan() { solve((uint64_t{1} << n_) - 1, source_, 0, static_cast<uint32_t>((uint64_t{1} << k_) - 1)); }
+  // By the first links whose bits are not in `shut`.
+  void plan(uint64_t shut = 0) { solve((uint64_t{1} << n_) - 1, source_, shut, static_cast<uint32_t>((uint64_t{1} << k_) - 1)); }
+
+  unsigned hops(unsigned i) const { return length_[i]; }
+  // The relay at place p of path i, from place 1 on.
+  uint64_t relay(unsigned i, unsigned p) const { return path_[i][length_[i] - p]; }
 
   void write(uint64_t *places, uint64_t *counts) const {
     const size_t width = n_ + 2;
@@ -109,19 +114,25 @@ class Planner {
   uint64_t path_[32][34];
 };
 
+// 5, 6 or 7, where relays are the numbers of so many bits.
+inline uint64_t wrong_target(unsigned bits, uint64_t source, const uint64_t *targets, size_t k) {
+  for (size_t i = 0; i < k; ++i)
+    if (targets[i] >> bits) return 5;
+  for (size_t i = 0; i < k; ++i)
+    if (targets[i] == source) return 6;
+  for (size_t i = 0; i < k; ++i)
+    for (size_t j = 0; j < i; ++j)
+      if (targets[i] == targets[j]) return 7;
+  return 0;
+}
+
 inline uint64_t plan(uint64_t n, uint64_t source, const uint64_t *targets, size_t k, uint64_t *places, size_t room, uint64_t *counts,
                      size_t counted) {
   if (n < 1 || n > 32) return 1;
   if (source >> n) return 2;
   if (k == 0) return 3;
   if (k > n) return 4;
-  for (size_t i = 0; i < k; ++i)
-    if (targets[i] >> n) return 5;
-  for (size_t i = 0; i < k; ++i)
-    if (targets[i] == source) return 6;
-  for (size_t i = 0; i < k; ++i)
-    for (size_t j = 0; j < i; ++j)
-      if (targets[i] == targets[j]) return 7;
+  if (const uint64_t number = wrong_target(static_cast<unsigned>(n), source, targets, k)) return number;
   if (room < k * (n + 2) || counted < k) return 8;
   Planner planner(static_cast<unsigned>(n), source, targets, k);
   planner.plan();

@@ -2,8 +2,11 @@
 """The writer and the reader of sheets, from the specification's rules alone; and the cases that a program over the routines can be asked.
 
     python3 tests/sheet_model.py            both round trips over every case, case I, and the sheets of docs/SHEETS.md
-    python3 tests/sheet_model.py stdin      what is asked, a case to a line
-    python3 tests/sheet_model.py stdout     what is to be answered
+    python3 tests/sheet_model.py stdin      what crates/sheet_cases is asked, a case to a line
+    python3 tests/sheet_model.py stdout     what it is to answer
+    python3 tests/sheet_model.py fans       how many fans there are
+    python3 tests/sheet_model.py stdin N    what it can be asked of fan N: every byte of its sheet damaged, the sheet cut to every length
+    python3 tests/sheet_model.py stdout N   what it is to answer
 
 A line that asks the writer: 1, kind, size, source; targets, places and counts, each with its length before it; how many bytes are lent.
 A line that asks the reader: 2; the bytes, with their length before them; how many places, counts and target places are lent.
@@ -119,9 +122,13 @@ def bytes_of(kind, size, s, targets, places, counts):
     return out[:n]
 
 
-def writer_cases():
+# a sheet is damaged in every byte where it has no more of them
+LONGEST_DAMAGED = 130
+
+
+def writer_cases(some):
     """Each fan into room that is one short, exact and more; slices longer than they need be; no fan, no request, no room."""
-    for kind, size, s, targets, places, counts in fans():
+    for kind, size, s, targets, places, counts in some:
         n = len(bytes_of(kind, size, s, targets, places, counts))
         for room in (0, n - 1, n, n + 3):
             yield kind, size, s, targets, places, counts, room
@@ -153,8 +160,8 @@ def damaged(data):
         yield with_length(data + more)
 
 
-def reader_cases():
-    for index, (kind, size, s, targets, places, counts) in enumerate(fans()):
+def reader_cases(some, damage):
+    for kind, size, s, targets, places, counts in some:
         data, k, n = bytes_of(kind, size, s, targets, places, counts), len(targets), len(places)
         for room in ((n, k, k), (n + 2, k + 1, k + 3), (n - 1, k, k), (n, k - 1, k), (n, k, k - 1), (0, 0, 0)):
             yield data, room
@@ -163,13 +170,11 @@ def reader_cases():
         yield data[:16] + [0, 0] + data[18:], (n, k, k)
         yield with_length(data[:16] + [255, 255] + data[18:20]), (n, k, k)
         yield with_length(data[:-1]), (n, k, k)
-        if index >= len(FANS):
-            continue
         # each number of paths, kinds and sizes, one at a time
         for at in (5, 6, 7):
-            for value in (0, 1, 2, 3, 4, 5, 6, 32, 33, 255):
+            for value in (0, 1, 2, 3, 4, 5, 6, 32, 33, 255) if damage else (0, 3, 33):
                 yield data[:at] + [value] + data[at + 1:], (n, k, k)
-        if index in (3, 4):
+        if damage and len(data) <= LONGEST_DAMAGED:
             for wrong in damaged(data):
                 yield wrong, (n, k, k)
     yield [], (0, 0, 0)
@@ -178,25 +183,25 @@ def reader_cases():
 # ---- the program's lines
 
 def words(items):
-    return " ".join("F" if w == FILLER else str(w) for w in items)
+    return " ".join(str(w) for w in items)
 
 
 def run(items):
     return [len(items), *items]
 
 
-def asked():
-    for kind, size, s, targets, places, counts, room in writer_cases():
-        yield words([1, kind, size, s, *run(targets), *run(places), *run(counts), room])
-    for data, room in reader_cases():
+def asked(some, damage):
+    for kind, size, s, targets, places, counts, room in writer_cases(some):
+        yield words([1, kind, size, s, *run(targets), *run(places), *run(counts), room]).replace(str(FILLER), "F")
+    for data, room in reader_cases(some, damage):
         yield words([2, *run(data), *room])
 
 
-def answered():
-    for kind, size, s, targets, places, counts, room in writer_cases():
+def answered(some, damage):
+    for kind, size, s, targets, places, counts, room in writer_cases(some):
         number, n, out = write(kind, size, s, targets, places, counts, [LENT_BYTE] * room)
         yield words(["wrote", number, n, "bytes", *out])
-    for data, room in reader_cases():
+    for data, room in reader_cases(some, damage):
         told, places, counts, targets = read(data, *([HELD] * n for n in room))
         yield words(["read", *told, "places", *places, "counts", *counts, "targets", *targets])
 
@@ -215,7 +220,7 @@ def there_and_back():
 def back_and_there():
     """A sheet that is accepted writes back to the same bytes; how many were, and the numbers of the others."""
     accepted, numbers = 0, set()
-    for data, room in reader_cases():
+    for data, room in reader_cases(list(fans()), True):
         (number, _, kind, size, s, k), places, counts, targets = read(data, *([HELD] * n for n in room))
         numbers.add(number)
         if number == 0:
@@ -240,10 +245,18 @@ def worked():
     assert shown == [in_hex(case_i), in_hex(sheet(1, 2, 0, [[2, 3], [1]]))], shown
 
 
+def main(side, number):
+    """The program's own cases are those of two small fans, no byte damaged."""
+    some = [f for f in fans() if f[:4] in ((1, 2, 0, [3, 1]), (2, 1, 0, [5, 1]))] if number is None else [list(fans())[number]]
+    for line in (asked if side == "stdin" else answered)(some, number is not None):
+        print(line)
+
+
 if __name__ == "__main__":
-    if len(sys.argv) > 1:
-        for line in asked() if sys.argv[1] == "stdin" else answered():
-            print(line)
+    if sys.argv[1:] == ["fans"]:
+        print(len(list(fans())))
+    elif len(sys.argv) > 1:
+        main(sys.argv[1], int(sys.argv[2]) if len(sys.argv) > 2 else None)
     else:
         there_and_back()
         count = back_and_there()

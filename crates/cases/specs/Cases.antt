@@ -12,6 +12,7 @@ use Rattle.cube.specs.Says.{routeTold, routeLeaves}
 use Rattle.two.specs.Cases.{CaseA, CaseB, CaseD, CaseE, case-a, case-b, case-d, case-e}
 use Rattle.hops.specs.Cases.{CaseF, case-f}
 use Rattle.cube_fan.specs.Cases.{CaseG, case-g}
+use Rattle.two_plan.specs.Cases.{CaseH, case-h}
 use Rattle.sheet.specs.Cases.{CaseI, case-i}
 
 -- a field for each case; a lent slice has one place more than its route
@@ -30,9 +31,11 @@ pub record Cases : Type 0 where
   pub f : CaseF
   -- G: cube 2, from 0 to 3 and 1: 0, 2, 3 and 0, 1 is a fan, and the only one
   pub g : CaseG
+  -- H: order 1, from 0 to 4 and 6: 0, 1, 5, 4 and 0, 2, 3, 7, 6 is a fan, and the only one
+  pub h : CaseH
   -- I: cube 1, the sheet of the path 0 to 1: 00 00 00 16 01 01 01 01, eight 00, 00 01, seven 00, 01
   pub i : CaseI
 
 pub cases : Cases
 unfolding cube.route cube.hops cube.next walk.hops walk.route walk.node seek flip trailingZeros
-cases = record { a = case-a; b = case-b; c-route = refl; c-told = refl; c-leaves = refl; d = case-d; e = case-e; f = case-f; g = case-g; i = case-i }
+cases = record { a = case-a; b = case-b; c-route = refl; c-told = refl; c-leaves = refl; d = case-d; e = case-e; f = case-f; g = case-g; h = case-h; i = case-i }

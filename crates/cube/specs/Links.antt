@@ -4,7 +4,7 @@
 -- different (`flip-apart`); so a relay of the cube of n dimensions has exactly n links (`links-count`).
 use Prim.Native.Nat.{ℕ, _^_, _-_, _<_}
 use mathlib.Core.Path.{_≡_, sym, ap, _∙_}
-use mathlib.Core.Bool.{true, false}
+use mathlib.Core.Bool.{true}
 use mathlib.Core.Logic.{_≢_}
 use native.Mathlib.Omega.{arith}
 use lib.Bits.{bitXor, xor-comm, xor-self, xor-zero-l, xor-lt}
@@ -12,7 +12,7 @@ use lib.Count.{ones}
 use lib.Dec.{eqb}
 use borrow.Author.Tests.{eqb-true, eq-eqb}
 use Rattle.bits.specs.Bit.{bit, flip}
-use Rattle.bits.specs.Laws.{bit-lt, xor-assoc, flip-same, flip-other, flip-lt, ones-one, ones-pow, ones-zero}
+use Rattle.bits.specs.Laws.{bit-lt, xor-assoc, flip-same, flip-other, flip-lt, ones-one, ones-pow}
 use Rattle.scan.specs.Scan.{count}
 use Rattle.scan.specs.Counts.{Places, count-places}
 use Rattle.cube.specs.Cube.{linked}
@@ -20,11 +20,6 @@ use Rattle.cube.specs.Cube.{linked}
 pub linked-sym : (u v : ℕ) → linked u v ≡ linked v u
 unfolding linked
 linked-sym u v = ap (λ (x : ℕ). eqb (ones x) 1) (xor-comm u v)
-
--- no relay is linked to itself
-pub linked-self : (u : ℕ) → linked u u ≡ false
-unfolding linked
-linked-self u = ap (λ (x : ℕ). eqb x 1) (ap ones (xor-self u) ∙ ones-zero)
 
 -- x ^ (x ^ y) is y
 pub xor-front : (x y : ℕ) → bitXor x (bitXor x y) ≡ y

@@ -1,15 +1,13 @@
 -- Which sizes are known, test by test as code goes through them, and that the facts of a size are those of its mesh (`places-width`).
 -- Assumes nothing.
-use Prim.Native.Nat.{ℕ, _+_, _≤_, _<_}
+use Prim.Native.Nat.{ℕ, _≤_, _<_}
 use mathlib.Core.Path.{_≡_, refl, sym, _∙_}
 use mathlib.Core.Bool.{Bool, true, false}
-use native.Mathlib.Omega.{arith}
 use lib.Dec.{leb}
 use borrow.Author.Tests.{leb-true, le-leb, lt-leb}
 use Rattle.scan.specs.Scan.{pick}
 use Rattle.scan.specs.Laws.{true-false}
-use Rattle.paths.specs.Mesh.{width}
-use Rattle.cube.specs.Cube.{known, cube}
+use Rattle.cube.specs.Cube.{known}
 
 pub known-small : (n : ℕ) → n < 1 → false ≡ known n
 known-small n h = simp (lt-leb 1 n h)
@@ -24,7 +22,3 @@ known-most n e t = go (leb 1 n) (leb n 32) refl (sym e ∙ t)
     go : (a b : Bool) → b ≡ leb n 32 → pick a b false ≡ true → n ≤ 32
     go true b e t = leb-true n 32 (sym e ∙ t)
     go false b e t = absurd (true-false t refl)
-
--- the places that a path takes
-pub places-width : (n : ℕ) → n + 2 ≡ width (cube n)
-places-width n = omega arith

@@ -4,22 +4,12 @@
 ghost use Prim.Native.Nat.{_≤_, _<_};
 use answers::Answer;
 use cube::Size;
-use libc::STDOUT_FILENO;
-
-fn put(n: u64) {
-    io::write_all(STDOUT_FILENO, b" ");
-    io::print_decimal(STDOUT_FILENO, n);
-}
+use script::put;
+use script::text;
 
 // The first k places.
-fn put_first(list: &[u64; 40], k: usize)
-    requires { ⌜ k ≤ 40 ⌝ }
-{
-    let mut i: usize = 0;
-    while i < k {
-        put(list[i]);
-        i += 1;
-    }
+fn put_places(places: &[u64; 40], k: usize) {
+    script::put_first(places, k);
 }
 
 fn flag(b: bool) -> u64 {
@@ -28,18 +18,18 @@ fn flag(b: bool) -> u64 {
 
 // Number, place and value.
 fn put_answer(a: Answer) {
-    io::write_all(STDOUT_FILENO, b":");
+    text(b":");
     put(a.number());
     put(a.place() as u64);
     put(a.value());
 }
 
 fn end_line() {
-    io::write_all(STDOUT_FILENO, b"\n");
+    text(b"\n");
 }
 
 fn fact(name: &[u8], n: u64, a: Answer) {
-    io::write_all(STDOUT_FILENO, name);
+    text(name);
     put(n);
     put_answer(a);
     end_line();
@@ -47,9 +37,9 @@ fn fact(name: &[u8], n: u64, a: Answer) {
 
 // Whether a size is known, and its facts.
 fn facts(n: u64) {
-    io::write_all(STDOUT_FILENO, b"known");
+    text(b"known");
     put(n);
-    io::write_all(STDOUT_FILENO, b":");
+    text(b":");
     put(flag(Size(n).known()));
     end_line();
     fact(b"relays", n, Size(n).relays());
@@ -59,7 +49,7 @@ fn facts(n: u64) {
 }
 
 fn put_pair(name: &[u8], n: u64, s: u64, t: u64) {
-    io::write_all(STDOUT_FILENO, name);
+    text(name);
     put(n);
     put(s);
     put(t);
@@ -68,7 +58,7 @@ fn put_pair(name: &[u8], n: u64, s: u64, t: u64) {
 fn linked(n: u64, s: u64, t: u64) {
     let a = cube::linked(Size(n), s, t);
     put_pair(b"linked", n, s, t);
-    io::write_all(STDOUT_FILENO, b":");
+    text(b":");
     put(a.number());
     put(a.place() as u64);
     put(flag(a.yes()));
@@ -88,11 +78,11 @@ fn route(n: u64, s: u64, t: u64, room: usize)
     let mut out = [77u64; 40];
     let a = cube::route(Size(n), s, t, &mut out[..room]);
     put_pair(b"route", n, s, t);
-    io::write_all(STDOUT_FILENO, b" in");
+    text(b" in");
     put(room as u64);
     put_answer(a);
-    io::write_all(STDOUT_FILENO, b" holds");
-    put_first(&out, room + 2);
+    text(b" holds");
+    put_places(&out, room + 2);
     end_line();
 }
 

@@ -9,8 +9,7 @@ use mathlib.Core.Option.{Option, none, some}
 use native.Mathlib.Omega.{arith}
 use lib.Count.{ones}
 use lib.Dec.{ltb}
-use lib.ListN.{length, drop, getD, length-drop}
-use lib.Seq.{getD-drop, ext-getD}
+use lib.ListN.{length, getD}
 use borrow.Author.Tests.{ltb-false}
 use Rattle.bits.specs.Bit.{bit, flip}
 use Rattle.bits.specs.Laws.{bit-lt, flip-lt}
@@ -22,6 +21,7 @@ use Rattle.answers.specs.declared.Refusal.the-variants.{NoRoom}
 use Rattle.answers.specs.declared.Checked.{Checked}
 use Rattle.answers.specs.declared.Checked.the-variants as checked
 use Rattle.requests.specs.Sound.{Sound, sound}
+use Rattle.requests.specs.Planned.{Planned, not-both, refusal, granted}
 use Rattle.paths.specs.Mesh.{width}
 use Rattle.paths.specs.Fan.{filler, relay, hops, Fan}
 use Rattle.paths.specs.Lists.{In, Chain, Lists, laid-in, laid-fan}
@@ -33,7 +33,7 @@ use Rattle.doors.specs.Paths.{flip-moves}
 use Rattle.doors.specs.Masks.{less, bit-less}
 use Rattle.doors.specs.Plain.{bit-full, full-below}
 use Rattle.cube_plan.specs.Fan.{Sought, Given}
-use Rattle.cube_fan.specs.Promise.{short, Planned, Through}
+use Rattle.cube_fan.specs.Promise.{short, Through}
 
 -- ---- from doors to the cube
 
@@ -42,12 +42,6 @@ walk-chain n free u t [] h lt w = w
 walk-chain n free u t (v ∷ l) h lt w =
     let below : v < 2 ^ n = subst (λ (x : ℕ). x < 2 ^ n) (sym (w .2)) (flip-lt n u (w .0) lt (h (w .0) (w .1))) in
     (below, ap (linked u) (w .2) ∙ linked-flip u (w .0), walk-chain n free v t l h below (w .3))
-
--- lists that are the same beyond a place
-drop-same : (m : ℕ) (l r : List ℕ) → length l ≡ length r → ((i : ℕ) → m ≤ i → getD l i 0 ≡ getD r i 0) → drop m l ≡ drop m r
-drop-same m l r e h =
-    ext-getD 0 (drop m l) (drop m r) (length-drop m l ∙ ap (λ (x : ℕ). x - m) e ∙ sym (length-drop m r))
-    (λ i g. getD-drop m l i 0 ∙ h (m + i) (omega arith) ∙ sym (getD-drop m r i 0))
 
 -- the test that the code makes
 pub short-is : (n k : ℕ) (targets places counts : List ℕ) → k ≡ length targets
@@ -70,30 +64,14 @@ late n targets places counts = refuse (short n targets places counts) NoRoom non
 
 -- what is then given
 pub record Laid (n s shut : ℕ) (targets places counts : List ℕ) (r : Checked) (places₁ counts₁ : List ℕ) : Type 0 where
-  pub planned : Planned (late n targets places counts) n s targets places counts r places₁ counts₁
+  pub planned : Planned (late n targets places counts) (cube n) s targets places counts r places₁ counts₁
   pub through : late n targets places counts ≡ none → (doors : ℕ) → shut ≡ less (2 ^ n - 1) doors → Through n s doors targets places₁ counts₁
-
-pub not-both : {o : Option Refusal} {why : Refusal} {A : Type 0} → o ≡ some why → o ≡ none → A
-not-both p q = let z : _≡_ {A = ℕ} 0 1 = cc in absurd (omega arith)
-
--- a refusal changes nothing
-pub refusal : {o : Option Refusal} {why : Refusal} (n s : ℕ) (targets places counts : List ℕ) → o ≡ some why
-    → Planned o n s targets places counts (checked.Refused why) places counts
-refusal n s targets places counts e = record {
-  told = sym e;
-  fan = λ z. not-both e z;
-  beyond = refl;
-  beyond-counts = refl;
-  as-long = refl;
-  as-long-counts = refl;
-  refused = λ r z. (refl, refl);
-}
 
 module _ (n s shut : ℕ) (targets places counts : List ℕ) where
   pub no-room : short n targets places counts ≡ true → Laid n s shut targets places counts (checked.Refused NoRoom) places counts
   no-room e =
       let o : late n targets places counts ≡ some NoRoom = ap (λ (b : Bool). refuse b NoRoom none) e in
-      record { planned = refusal n s targets places counts o; through = λ z. not-both o z }
+      record { planned = refusal (cube n) s targets places counts o; through = λ z. not-both o z }
 
   module _ (q : Asked n s shut targets) (e : short n targets places counts ≡ false) where
     -- there is room for the places and for the counts
@@ -172,15 +150,7 @@ module _ (n s shut : ℕ) (targets places counts : List ℕ) where
       laid-out =
           let o : late n targets places counts ≡ none = ap (λ (b : Bool). refuse b NoRoom none) e in
           record {
-            planned = record {
-              told = sym o;
-              fan = λ z. fan;
-              beyond = let same : n + 2 ≡ width (cube n) = omega arith in
-                  subst (λ (w : ℕ). drop (k * w) places₁ ≡ drop (k * w) places) same (drop-same (k * (n + 2)) places₁ places long (g .beyond));
-              beyond-counts = drop-same k counts₁ counts long-counts (g .kept);
-              as-long = long;
-              as-long-counts = long-counts;
-              refused = λ r z. not-both z o;
-            };
+            planned = granted (cube n) s targets places counts places₁ counts₁ o fan (let same : n + 2 ≡ width (cube n) = omega arith in
+                subst (λ (w : ℕ). (i : ℕ) → k * w ≤ i → getD places₁ i 0 ≡ getD places i 0) same (g .beyond)) (g .kept) long long-counts;
             through = λ z doors is. opens doors is;
           }

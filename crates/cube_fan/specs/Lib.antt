@@ -2,6 +2,5 @@
 pub mod Promise
 pub mod Laying
 pub mod Order
-pub mod Results
 pub mod Callers
 pub mod Cases

@@ -21,13 +21,14 @@ use Rattle.answers.specs.declared.Refusal.the-variants.{UnknownSize, BadDoors}
 use Rattle.answers.specs.declared.Checked.{Checked}
 use Rattle.answers.specs.declared.Checked.the-variants as checked
 use Rattle.requests.specs.Sound.{before, faults-parts, sound}
+use Rattle.requests.specs.Planned.{Planned, not-both, refusal}
 use Rattle.paths.specs.Lists as lists
-use Rattle.cube.specs.Cube.{known}
+use Rattle.cube.specs.Cube.{known, cube}
 use Rattle.doors.specs.Masks.{less}
 use Rattle.doors.specs.Choose.{ones-less, less-on}
 use Rattle.doors.specs.Plain.{bit-full, full-below, bit-high}
-use Rattle.cube_fan.specs.Promise.{short, badDoors, faults, Planned, PlannedThrough}
-use Rattle.cube_fan.specs.Laying.{Asked, late, Laid, not-both, refusal}
+use Rattle.cube_fan.specs.Promise.{short, badDoors, faults, PlannedThrough}
+use Rattle.cube_fan.specs.Laying.{Asked, late, Laid}
 
 -- ---- the order of the faults
 
@@ -111,21 +112,21 @@ asked-through n s doors targets e z is =
 module _ (n s : ℕ) (targets places counts : List ℕ) where
   -- refused by 1 to 7
   pub plan-refused : {why : Refusal} (bad : Bool) → early n s targets ≡ some why
-      → Planned (faults n s targets bad places counts) n s targets places counts (checked.Refused why) places counts
-  plan-refused bad e = refusal n s targets places counts (faults-early n s targets bad places counts e)
+      → Planned (faults n s targets bad places counts) (cube n) s targets places counts (checked.Refused why) places counts
+  plan-refused bad e = refusal (cube n) s targets places counts (faults-early n s targets bad places counts e)
 
   module _ (e : early n s targets ≡ none) where
     -- not refused by 11
     laid-planned : {r : Checked} {places₁ counts₁ : List ℕ} {shut : ℕ} (bad : Bool) → bad ≡ false → Laid n s shut targets places counts r places₁ counts₁
-        → Planned (faults n s targets bad places counts) n s targets places counts r places₁ counts₁
+        → Planned (faults n s targets bad places counts) (cube n) s targets places counts r places₁ counts₁
     laid-planned {r} {places₁} {counts₁} bad z a =
-        subst (λ (o : Option Refusal). Planned o n s targets places counts r places₁ counts₁) (sym (here bad z)) (a .planned)
+        subst (λ (o : Option Refusal). Planned o (cube n) s targets places counts r places₁ counts₁) (sym (here bad z)) (a .planned)
       where
         here : (bad : Bool) → bad ≡ false → faults n s targets bad places counts ≡ late n targets places counts
         here bad z = faults-late n s targets bad places counts e ∙ ap (λ (b : Bool). refuse b BadDoors (late n targets places counts)) z
 
     pub plan-laid : {r : Checked} {places₁ counts₁ : List ℕ} → Laid n s 0 targets places counts r places₁ counts₁
-        → Planned (faults n s targets false places counts) n s targets places counts r places₁ counts₁
+        → Planned (faults n s targets false places counts) (cube n) s targets places counts r places₁ counts₁
     plan-laid a = laid-planned false refl a
 
     module _ (doors : ℕ) where
@@ -143,7 +144,7 @@ module _ (n s : ℕ) (targets places counts : List ℕ) where
       through-bad z =
           let o : faults n s targets bad places counts ≡ some BadDoors =
           faults-late n s targets bad places counts e ∙ ap (λ (b : Bool). refuse b BadDoors (late n targets places counts)) z in
-          record { planned = refusal n s targets places counts o; through = λ y. not-both o y }
+          record { planned = refusal (cube n) s targets places counts o; through = λ y. not-both o y }
 
   pub through-refused : {why : Refusal} (doors : ℕ) → early n s targets ≡ some why
       → PlannedThrough (faults n s targets (badDoors n doors targets) places counts) n s doors targets places counts (checked.Refused why) places counts

@@ -7,7 +7,9 @@ ghost use lib.Dec.{leb, ltb};
 ghost use Rattle.scan.specs.Scan.{pick};
 ghost use Rattle.answers.specs.Told.{against};
 ghost use Rattle.doors.specs.Masks as masks;
-ghost use Rattle.cube_fan.specs.Promise.{faults, badDoors, Planned, PlannedThrough};
+ghost use Rattle.cube.specs.Cube.{cube};
+ghost use Rattle.requests.specs.Planned.{Planned};
+ghost use Rattle.cube_fan.specs.Promise.{faults, badDoors, PlannedThrough};
 ghost use Rattle.cube_fan.specs.Laying.{Asked, Laid};
 ghost use Rattle.cube_fan.specs.Order.{early};
 use answers::Checked;
@@ -83,7 +85,7 @@ pub fn plan(
     places: &mut [u64],
     counts: &mut [u64],
 ) -> Checked
-    ensures { λ r. ⌜ Planned (faults (size .0) source (now (targets .entry)) false (now (places .entry)) (now (counts .entry))) (size .0) source (now (targets .entry)) (now (places .entry)) (now (counts .entry)) r (now (places .exit)) (now (counts .exit)) ⌝ }
+    ensures { λ r. ⌜ Planned (faults (size .0) source (now (targets .entry)) false (now (places .entry)) (now (counts .entry))) (cube (size .0)) source (now (targets .entry)) (now (places .entry)) (now (counts .entry)) r (now (places .exit)) (now (counts .exit)) ⌝ }
 {
     let checked = request(size, source, targets);
     if let Checked::Refused(why) = checked {

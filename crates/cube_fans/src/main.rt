@@ -4,34 +4,23 @@
 ghost use Prim.Native.Nat.{_≤_};
 use answers::Checked;
 use cube::Size;
-use libc::STDOUT_FILENO;
-
-fn put(n: u64) {
-    io::write_all(STDOUT_FILENO, b" ");
-    io::print_decimal(STDOUT_FILENO, n);
-}
-
-fn put_all(list: &[u64]) {
-    let mut i: usize = 0;
-    while i < list.len() {
-        put(list[i]);
-        i += 1;
-    }
-}
+use script::put;
+use script::put_first;
+use script::text;
 
 // What is asked.
 fn put_request(name: &[u8], n: u64, source: u64, doors: u64, targets: &[u64]) {
-    io::write_all(STDOUT_FILENO, name);
+    text(name);
     put(n);
     put(source);
     put(doors);
-    io::write_all(STDOUT_FILENO, b" to");
-    put_all(targets);
+    text(b" to");
+    put_first(targets, targets.len());
 }
 
 // What comes back: number and place.
 fn put_checked(checked: Checked) {
-    io::write_all(STDOUT_FILENO, b":");
+    text(b":");
     match checked {
         Checked::Fine => {
             put(0);
@@ -41,18 +30,6 @@ fn put_checked(checked: Checked) {
             put(why.number());
             put(why.place() as u64);
         }
-    }
-}
-
-// The first k of a list, after a word.
-fn put_first(word: &[u8], list: &[u64; 40], k: usize)
-    requires { ⌜ k ≤ 40 ⌝ }
-{
-    io::write_all(STDOUT_FILENO, word);
-    let mut i: usize = 0;
-    while i < k {
-        put(list[i]);
-        i += 1;
     }
 }
 
@@ -67,9 +44,11 @@ fn put_outcome(
     requires { ⌜ (room ≤ 38) × (counted ≤ 38) ⌝ }
 {
     put_checked(checked);
-    put_first(b" places", places, room + 2);
-    put_first(b" counts", counts, counted + 2);
-    io::write_all(STDOUT_FILENO, b"\n");
+    text(b" places");
+    put_first(places, room + 2);
+    text(b" counts");
+    put_first(counts, counted + 2);
+    text(b"\n");
 }
 
 // A fan, into so many places and counts.

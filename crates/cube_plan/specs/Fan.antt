@@ -214,9 +214,6 @@ module _ (n s shut : ℕ) (targets places counts g : List ℕ) (q : Sought n s s
         (subst (λ (x : ℕ). Doors (ones (2 ^ n - 1)) (2 ^ n - 1) s shut x (target (n + 2) g) (hops (n + 2) g₁)) em
         (subst (λ (x : ℕ). Doors (ones x) x s shut m (target (n + 2) g) (hops (n + 2) g₁)) ef (p .fan))))
 
-    pub fan-long : length g₁ ≡ length places
-    fan-long = p .keeps .long ∙ a .long
-
     -- each row says how many relays it has
     pub fan-count : (j : ℕ) → j < k → getD g₁ (j * (n + 2)) 0 < n + 2
     fan-count j h = omega (arith, doors .each j (bit-full k j h) .short, hops-length (n + 2) g₁ j)

@@ -27,15 +27,17 @@ use Rattle.mesh.specs.Kinds.{Kind, kindOf, meshOf, known}
 use Rattle.mesh.specs.Laws.{known-small}
 use Rattle.mesh.specs.Says.{requestAgainst, short}
 use Rattle.mesh.specs.Requests.{Fine, request-fine, checked-fine, request-refused, request-short, request-granted, room-enough}
-use Rattle.two_plan.specs.Promise as planner
+use Rattle.requests.specs.Planned as planner
+use Rattle.requests.specs.Planned.{not-both}
 use Rattle.sheet.specs.Format.{relaysAt}
 use Rattle.sheet.specs.Says.{settled, flawed}
 use Rattle.sheet.specs.Total.{Sheeted, bytes}
 use Rattle.sheet.specs.Total as total
 use Rattle.sheet.specs.Lengths.{fan-sheet-most}
 use Rattle.sheet.specs.Bodied.{known-room, at-front}
+use Rattle.sheet.specs.Judging.{Judged, enough}
 use Rattle.sheet.specs.Running.{relays-count}
-use Rattle.sheet.specs.Writing.{sheeted-of}
+use Rattle.sheet.specs.Writing.{judged-sheeted}
 use Rattle.sheet.specs.declared.Flaw.{Flaw}
 use Rattle.sheet.specs.declared.Flaw.the-variants as flaw
 use Rattle.sheet.specs.declared.Written.{Written}
@@ -44,9 +46,6 @@ use Rattle.host.specs.Needs.{Roomy, Layable, few, Lent}
 
 some-inj : {x y : Refusal} → some x ≡ some y → x ≡ y
 some-inj e = cc
-
-some-none : {why : Refusal} {A : Type 0} → _≡_ {A = Option Refusal} (some why) none → A
-some-none e = let z : _≡_ {A = ℕ} 0 1 = cc in absurd (omega arith)
 
 -- ---- the place of a refusal
 
@@ -69,7 +68,7 @@ module _ (why : Refusal) where
       λ test p e. omega (arith, seek-first test 0 (length targets) p e .within, ltb-false (meshOf kind size .links) (length targets) m, known-small kind size (not-false (known kind size) k) .0) in
       through-at (firstAt targets (isOut (meshOf kind size .relays) targets)) TargetOut _ (below (isOut (meshOf kind size .relays) targets))
       (through-at (firstAt targets (isSame s targets)) TargetIsSource _ (below (isSame s targets))
-      (through-at (firstAt targets (isAgain targets)) TargetAgain _ (below (isAgain targets)) (λ e. some-none (sym e))))))))
+      (through-at (firstAt targets (isAgain targets)) TargetAgain _ (below (isAgain targets)) (λ e. not-both refl (sym e))))))))
 
 pub request-place : (kind size s : ℕ) (targets : List ℕ) {r : Checked} {why : Refusal} → r ≡ checked.Refused why → against r ≡ requestAgainst (kindOf kind) size s targets false → place why < 256
 request-place kind size s targets {r} {why} f e = request-small why kind size s targets (sym e ∙ ap against f)
@@ -99,33 +98,34 @@ module _ (kind size s : ℕ) (targets : List ℕ) where
       let all = mul-le-mul-right (width (meshOf kind size)) (fine .sound .few) in
       let placed : length targets * width (meshOf kind size) ≤ places = omega (arith, all, known-room kind size (fine .known), p .roomy .placed) in
       let counted : length targets ≤ counts = omega (arith, fine .sound .few, known-small kind size (fine .known) .0, p .roomy .counted) in
-      simp (le-ltb places (length targets * width (meshOf kind size)) placed, le-ltb counts (length targets) counted)
+      enough (meshOf kind size) (length targets) places counts placed counted
 
   module _ {places counts places₁ counts₁ : List ℕ} {out : ℕ} {r : Checked} (p : Layable kind size s targets (length places) (length counts) out)
       (f : planner.Planned (requestAgainst (kindOf kind) size s targets (short (meshOf kind size) (length targets) (length places) (length counts))) (meshOf kind size) s targets places counts r places₁ counts₁) where
     pub lay-fan : Fan (meshOf kind size) s targets places₁ counts₁
     lay-fan = f .fan (ap (requestAgainst (kindOf kind) size s targets) (wide p) ∙ p .clear)
 
-    lay-wide : short (meshOf kind size) (length targets) (length places₁) (length counts₁) ≡ false
-    lay-wide = ap₂ (short (meshOf kind size) (length targets)) (f .as-long) (f .as-long-counts) ∙ wide p
+    pub lay-judged : Judged (kindOf kind) size s targets places₁ counts₁
+    lay-judged =
+        let room = room-enough (meshOf kind size) (length targets) (length places) (length counts) (wide p) in
+        record { request = p .clear; room = omega (arith, room .0, f .as-long); counted = omega (arith, room .1, f .as-long-counts); fan = lay-fan }
 
     pub lay-sheeted : Sheeted kind size (length targets) (length places₁) counts₁
-    lay-sheeted = sheeted-of kind size s targets places₁ counts₁ lay-fan (request-fine (kindOf kind) size s targets (p .clear)) lay-wide
+    lay-sheeted = judged-sheeted kind size s targets places₁ counts₁ lay-judged
 
   pub lay-answered : {places counts places₁ counts₁ out out₁ : List ℕ} {r : Checked} {w : Written} → Layable kind size s targets (length places) (length counts) (length out)
       → planner.Planned (requestAgainst (kindOf kind) size s targets (short (meshOf kind size) (length targets) (length places) (length counts))) (meshOf kind size) s targets places counts r places₁ counts₁
       → total.Put kind size s (length targets) places₁ counts₁ out w out₁ → Answered kind size s targets out out₁
   lay-answered {places} {counts} {places₁} {counts₁} {out} {out₁} p f q =
       let sheet = bytes kind size s (length targets) places₁ counts₁ in
-      let fan = lay-fan p f in
-      let room = room-enough (meshOf kind size) (length targets) (length places₁) (length counts₁) (lay-wide p f) in
-      let fits : length sheet ≤ length out = omega (arith, fan-sheet-most (meshOf kind size) s targets places₁ counts₁ fan kind size, p .long) in
+      let j = lay-judged p f in
+      let fits : length sheet ≤ length out = omega (arith, fan-sheet-most (meshOf kind size) s targets places₁ counts₁ (j .fan) kind size, p .long) in
       record {
         places = places₁;
         counts = counts₁;
-        fan = fan;
-        placed = room .0;
-        counted = room .1;
+        fan = j .fan;
+        placed = j .room;
+        counted = j .counted;
         held = q .held ∙ ap (λ (b : Bool). settled (flawed b flaw.NoRoom none) (sheet ++ drop (length sheet) out) out) (le-ltb (length out) (length sheet) fits);
       }
 
@@ -134,7 +134,7 @@ module _ (kind size s : ℕ) (targets : List ℕ) where
 pub refusal : {o : Option Refusal} {why : Refusal} {r : ℕ} (kind size s : ℕ) (targets out : List ℕ) → some why ≡ o → r ≡ codeOf (some why) → Planned o kind size s targets out r out
 refusal kind size s targets out e p = record {
   told = p ∙ ap codeOf e;
-  answered = λ z. some-none (e ∙ z);
+  answered = λ z. not-both (sym e) z;
   refused = λ w z. refl;
 }
 
@@ -161,7 +161,7 @@ module _ (kind size s : ℕ) (targets out : List ℕ) {c : Checked} (e : against
       → Planned (listAgainst kind size s targets out) kind size s targets out 0 out₁
   list-done {m} {out₁} f q h a =
       let o : none ≡ listAgainst kind size s targets out = request-granted (kindOf kind) size s targets e {room = want kind size targets out} f (ap (ltb (length out)) q) (le-ltb (length out) m h) in
-      record { told = ap codeOf o; answered = λ z. a; refused = λ why z. some-none (sym z ∙ sym o) }
+      record { told = ap codeOf o; answered = λ z. a; refused = λ why z. not-both z (sym o) }
 
 -- ---- the first 33 of more targets
 
@@ -226,9 +226,9 @@ module _ (kind size s : ℕ) (l list : List ℕ) {k : ℕ} (e : k ≡ few (lengt
           })
         where
           never : {A : Type 0} (u w : Bool) → refuse u UnknownSize (refuse w SourceOut (some TooMany)) ≡ none → A
-          never true w z = some-none z
-          never false true z = some-none z
-          never false false z = some-none z
+          never true w z = not-both refl z
+          never false true z = not-both refl z
+          never false false z = not-both refl z
 
 -- bytes that are no multiple of 8
 pub unreadable : (kind size s : ℕ) (l out : List ℕ) {r : ℕ} → length l % 8 ≢ 0 → r ≡ codeOf (some Unreadable) → Planned (planAgainst kind size s l out) kind size s (targetsIn l) out r out

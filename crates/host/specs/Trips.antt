@@ -5,13 +5,13 @@ use mathlib.Core.Path.{_≡_, refl, sym, ap, _∙_}
 use mathlib.Core.Bool.{Bool, true, false, not}
 use mathlib.Core.List.{List}
 use mathlib.Core.Option.{Option, none, some}
-use native.Mathlib.Omega.{arith}
 use lib.Dec.{eqb, ltb}
 use lib.ListN.{length, take, drop}
 use lib.Seq.{take-at}
 use Rattle.answers.specs.Order.{refuse}
 use Rattle.answers.specs.declared.Refusal.{Refusal}
 use Rattle.answers.specs.declared.Refusal.the-variants.{Unreadable}
+use Rattle.requests.specs.Planned.{not-both}
 use Rattle.mesh.specs.Kinds.{kindOf, meshOf}
 use Rattle.mesh.specs.Says.{requestAgainst}
 use Rattle.mesh.specs.Requests.{request-passed}
@@ -21,7 +21,7 @@ use Rattle.sheet.specs.TripsRead.{ReadsBack, write-read}
 use Rattle.host.specs.Says.{most, targetsIn, listAgainst, planAgainst, Answered, Planned}
 
 not-refused : (b : Bool) (why : Refusal) (rest : Option Refusal) → refuse b why rest ≡ none → rest ≡ none
-not-refused true why rest e = let z : _≡_ {A = ℕ} 0 1 = cc in absurd (omega arith)
+not-refused true why rest e = not-both refl e
 not-refused false why rest e = e
 
 module _ (kind size s : ℕ) (l out out₁ : List ℕ) {r : ℕ} (p : Planned (planAgainst kind size s l out) kind size s (targetsIn l) out r out₁) (o : planAgainst kind size s l out ≡ none) where

@@ -3,10 +3,10 @@
 use Prim.Native.Nat.{ℕ, zero, suc, _+_, _*_, _/_, _%_, _^_, _≤_, _<_}
 use mathlib.Core.Path.{_≡_, refl, sym, ap, ap₂, _∙_, subst}
 use mathlib.Core.List.{List, [], _∷_, _++_, append-assoc}
-use native.Mathlib.Nat.{div-add-mod', div-lt-iff-lt-mul, mod-lt, pow-suc, zero-add}
+use native.Mathlib.Nat.{div-add-mod', div-lt-iff-lt-mul, pow-suc, zero-add}
 use native.Mathlib.Omega.{arith}
 use lib.ListN.{length, getD, take, drop, length-append, length-drop}
-use lib.Seq.{take-suc, getD-drop, getD-at, getD-append-add}
+use lib.Seq.{take-suc, getD-drop, getD-at}
 use lib.Arith.{digits-div, digits-mod, digits-lt}
 
 -- the w lowest bytes of v
@@ -54,9 +54,6 @@ pub number-cong : (l r : List ℕ) (at from w : ℕ) → ((j : ℕ) → j < w �
 unfolding number
 number-cong l r at from zero h = refl
 number-cong l r at from (suc w) h = ap₂ (λ (x y : ℕ). x * 256 + y) (number-cong l r at from w (λ j g. h j (omega arith))) (h w (omega arith))
-
-pub number-after : (a l : List ℕ) (w : ℕ) → number (a ++ l) (length a) w ≡ number l 0 w
-number-after a l w = number-cong (a ++ l) l (length a) 0 w (λ j h. getD-append-add a l j 0 ∙ ap (λ (i : ℕ). getD l i 0) (sym (zero-add j)))
 
 -- ---- each undoes the other
 

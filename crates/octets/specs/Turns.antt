@@ -1,13 +1,14 @@
--- A number read byte by byte (`Reading`), and bytes written one after another (`sets-append`, `put-more`). Assumes nothing.
-use Prim.Native.Nat.{ℕ, zero, suc, _+_, _-_, _*_, _/_, _%_, _^_, _≤_, _<_}
-use mathlib.Core.Path.{_≡_, refl, sym, ap, ap₂, _∙_, subst}
-use mathlib.Core.List.{List, [], _∷_, _++_}
+-- A number read byte by byte (`Reading`), and bytes written one after another (`put-more`, `put-none`). Assumes nothing.
+use Prim.Native.Nat.{ℕ, _+_, _-_, _*_, _/_, _%_, _^_, _≤_, _<_}
+use mathlib.Core.Path.{_≡_, sym, ap, ap₂, _∙_, subst}
+use mathlib.Core.List.{List, [], _∷_}
 use native.Mathlib.Nat.{pow-le-pow-right, pow-suc}
 use native.Mathlib.Numerals.{add-one}
 use native.Mathlib.Omega.{arith}
-use lib.ListN.{length, getD, set}
+use lib.ListN.{getD, set}
 use lib.Seq.{sets}
 use lib.Arith.{digits-lt}
+use Rattle.scan.specs.Runs.{sets-append}
 use Rattle.octets.specs.Big.{big, number, big-length, big-more, number-none, number-more}
 
 -- i bytes of w are read
@@ -38,14 +39,10 @@ reading-ends {l} {at} {w} {value} {i} v h = v .is ∙ ap (number l at) (omega (a
 
 -- ---- bytes written one after another
 
-pub sets-append : (a b l : List ℕ) (at : ℕ) → sets l at (a ++ b) ≡ sets (sets l at a) (at + length a) b
-sets-append [] b l at = ap (λ (i : ℕ). sets l i b) (omega arith)
-sets-append (x ∷ a) b l at = sets-append a b (set l at x) (suc at) ∙ ap (λ (i : ℕ). sets (sets (set l at x) (suc at) a) i b) (omega arith)
-
 -- the lowest byte after the others
 pub put-more : (w less value at : ℕ) (l : List ℕ) → less + 1 ≡ w → set (sets l at (big less (value / 256))) (at + less) (value % 256) ≡ sets l at (big w value)
 put-more w less value at l e =
-    sym (sets-append (big less (value / 256)) (value % 256 ∷ []) l at
+    sym (sets-append l at (big less (value / 256)) (value % 256 ∷ [])
     ∙ ap (λ (i : ℕ). set (sets l at (big less (value / 256))) i (value % 256)) (ap (λ (i : ℕ). at + i) (big-length less (value / 256))))
     ∙ ap (sets l at) (sym (big-more less value) ∙ ap (λ (i : ℕ). big i value) (sym (add-one less) ∙ e))
 

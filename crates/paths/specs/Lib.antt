@@ -4,6 +4,7 @@ pub mod Fan
 pub mod Finding
 pub mod Lists
 pub mod Read
+pub mod Forced
 pub mod Clear
 pub mod Judged
 pub mod Whole

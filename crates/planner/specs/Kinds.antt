@@ -17,8 +17,8 @@ use Rattle.two.specs.Two.{two}
 use Rattle.mesh.specs.Kinds.{Kind, kindOf, cubes, twos, others, CUBE, TWO}
 use Rattle.mesh.specs.Says.{requestAgainst, short}
 use Rattle.mesh.specs.Laws.{as-cube, as-two, as-other}
-use Rattle.cube_fan.specs.Promise as cube-fan
-use Rattle.two_plan.specs.Promise.{Planned, refusal}
+use Rattle.requests.specs.Planned.{Planned, refusal}
+use Rattle.cube_fan.specs.Promise.{faults}
 
 -- the promise over a kind
 abbrev pub Over : (K : Kind) (n s : ℕ) (targets places counts : List ℕ) (r : Checked) (places₁ counts₁ : List ℕ) → Type 0
@@ -26,16 +26,8 @@ Over K n s targets places counts r places₁ counts₁ =
     Planned (requestAgainst K n s targets (short (K .mesh n) (length targets) (length places) (length counts))) (K .mesh n) s targets places counts r places₁ counts₁
 
 module _ (k n s : ℕ) (targets places counts : List ℕ) (r : Checked) (places₁ counts₁ : List ℕ) where
-  pub of-cube : k ≡ CUBE → cube-fan.Planned (cube-fan.faults n s targets false places counts) n s targets places counts r places₁ counts₁ → Over (kindOf k) n s targets places counts r places₁ counts₁
-  of-cube e p = subst (λ (K : Kind). Over K n s targets places counts r places₁ counts₁) (as-cube (λ (K : Kind). K) e) (record {
-    told = p .told;
-    fan = p .fan;
-    beyond = p .beyond;
-    beyond-counts = p .beyond-counts;
-    as-long = p .as-long;
-    as-long-counts = p .as-long-counts;
-    refused = p .refused;
-  })
+  pub of-cube : k ≡ CUBE → Planned (faults n s targets false places counts) (cube n) s targets places counts r places₁ counts₁ → Over (kindOf k) n s targets places counts r places₁ counts₁
+  of-cube e p = subst (λ (K : Kind). Over K n s targets places counts r places₁ counts₁) (as-cube (λ (K : Kind). K) e) p
 
   pub of-two : k ≢ CUBE → k ≡ TWO → Over twos n s targets places counts r places₁ counts₁ → Over (kindOf k) n s targets places counts r places₁ counts₁
   of-two ne e p = subst (λ (K : Kind). Over K n s targets places counts r places₁ counts₁) (as-two (λ (K : Kind). K) ne e) p

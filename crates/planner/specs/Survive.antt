@@ -13,7 +13,7 @@ use Rattle.scan.specs.Scan.{count, has, different}
 use Rattle.paths.specs.Mesh.{Mesh, width}
 use Rattle.paths.specs.Whole.{whole}
 use Rattle.paths.specs.Survive.{fan-survives}
-use Rattle.two_plan.specs.Promise.{Planned}
+use Rattle.requests.specs.Planned.{Planned}
 
 pub plan-survives : {o : Option Refusal} (mesh : Mesh) (s : ℕ) (targets places counts : List ℕ) {r : Checked} (places₁ counts₁ : List ℕ) → Planned o mesh s targets places counts r places₁ counts₁
     → against r ≡ none → (stopped : List ℕ) → has stopped s ≡ false

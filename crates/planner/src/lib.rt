@@ -2,7 +2,7 @@
 ghost use lib.ListN.{length};
 ghost use Rattle.mesh.specs.Kinds.{kindOf, meshOf};
 ghost use Rattle.mesh.specs.Says.{requestAgainst, short};
-ghost use Rattle.two_plan.specs.Promise.{Planned};
+ghost use Rattle.requests.specs.Planned.{Planned};
 use answers::Checked;
 use answers::Refusal;
 use cube::Size;

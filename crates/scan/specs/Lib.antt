@@ -2,3 +2,4 @@
 pub mod Scan
 pub mod Laws
 pub mod Counts
+pub mod Runs

@@ -22,8 +22,9 @@ use Rattle.mesh.specs.Laws.{as-cube, not-cube, known-cube, known-two, known-sma
 use Rattle.mesh.specs.Says.{short}
 use Rattle.mesh.specs.Requests.{neither-wanting, room-enough}
 use Rattle.sheet.specs.Format.{VERSION, HEAD, lengthAt, versionAt, kindAt, sizeAt, countAt, sourceAt, pathsAt, placesOf, countsOf, targetsOf}
-use Rattle.sheet.specs.Says.{flawNumber, ReadTold, reads, tellRead, readingTold, flawed, before, settled, cut, badCount, looked, meshAt, sheetPaths, sheetTargets, sheetPlaces, sheetCounts, headAgainst, unjudged, lacking, readsAgainst, Read}
+use Rattle.sheet.specs.Says.{flawNumber, ReadTold, reads, readNumber, readKind, readSize, readSource, readCount, tellRead, readingTold, flawed, before, settled, cut, badCount, looked, meshAt, sheetPaths, sheetTargets, sheetPlaces, sheetCounts, headAgainst, unjudged, lacking, readsAgainst, Read}
 use Rattle.sheet.specs.Taken.{Taken, TakenPaths, Judgeable, passes}
+use Rattle.sheet.specs.Unique.{flaw-some}
 use Rattle.sheet.specs.Looking.{flawed-none}
 use Rattle.sheet.specs.Taking.{counts-length, targets-length, paths-length}
 use Rattle.sheet.specs.declared.Flaw.{Flaw}
@@ -40,35 +41,6 @@ pub record Bodied (l : List ℕ) (kind size s k : ℕ) : Type 0 where
   pub size-is : size ≡ sizeAt l
   pub source-is : s ≡ sourceAt l
   pub count-is : k ≡ countAt l
-
--- the numbers that are told
-numberIn : ReadTold → ℕ
-numberIn (reads n i kind size s k) = n
-
-kindIn : ReadTold → ℕ
-kindIn (reads n i kind size s k) = kind
-
-sizeIn : ReadTold → ℕ
-sizeIn (reads n i kind size s k) = size
-
-sourceIn : ReadTold → ℕ
-sourceIn (reads n i kind size s k) = s
-
-countIn : ReadTold → ℕ
-countIn (reads n i kind size s k) = k
-
-flaw-some : (f : Flaw) → flawNumber f ≢ 0
-flaw-some f = eqb-false (flawNumber f) 0 (go f)
-  where
-    go : (f : Flaw) → eqb (flawNumber f) 0 ≡ false
-    go flaw.Cut = refl
-    go flaw.Version = refl
-    go flaw.NoMesh = refl
-    go flaw.Paths = refl
-    go flaw.NoRoom = refl
-    go (flaw.Hops i) = refl
-    go flaw.NotAFan = refl
-    go flaw.LeftOver = refl
 
 -- what stands against the body: room, the paths, the judge
 abbrev bodyAgainst : (l places counts targets : List ℕ) → Option Flaw
@@ -91,20 +63,18 @@ module _ (l : List ℕ) where
 
   -- the head is read
   pub head-bodied : {m : code.Mesh} {s k : ℕ} {r : Reading} → r ≡ reading.Fan m s k → readingTold r ≡ headTold → Bodied l (m .kind) (m .size) s k
-  unfolding kindIn sizeIn sourceIn countIn numberIn
   head-bodied {m} {s} {k} e t = go (headAgainst l) refl (sym (ap readingTold e) ∙ t)
     where
       go : (o : Option Flaw) → headAgainst l ≡ o → reads 0 0 (m .kind) (m .size) s k ≡ tellRead o (kindAt l) (sizeAt l) (sourceAt l) (countAt l) → Bodied l (m .kind) (m .size) s k
-      go none h g = record { head = h; kind-is = ap kindIn g; size-is = ap sizeIn g; source-is = ap sourceIn g; count-is = ap countIn g }
-      go (some f) h g = absurd (flaw-some f (sym (ap numberIn g)))
+      go none h g = record { head = h; kind-is = ap readKind g; size-is = ap readSize g; source-is = ap readSource g; count-is = ap readCount g }
+      go (some f) h g = absurd (eqb-false (flawNumber f) 0 (flaw-some f) (sym (ap readNumber g)))
 
   -- what is told of the head is told of the sheet
   pub head-refused : (places counts targets : List ℕ) {f : Flaw} {r : Reading} → r ≡ reading.Refused f → readingTold r ≡ headTold → Read l places counts targets (reading.Refused f) places counts targets
-  unfolding numberIn
   head-refused places counts targets {f} e t = go (headAgainst l) refl (sym (ap readingTold e) ∙ t)
     where
       go : (o : Option Flaw) → headAgainst l ≡ o → tellRead (some f) 0 0 0 0 ≡ tellRead o (kindAt l) (sizeAt l) (sourceAt l) (countAt l) → Read l places counts targets (reading.Refused f) places counts targets
-      go none h g = absurd (flaw-some f (ap numberIn g))
+      go none h g = absurd (eqb-false (flawNumber f) 0 (flaw-some f) (ap readNumber g))
       go (some x) h g = refused l places counts targets x f g (ap (λ (y : Option Flaw). before y (bodyAgainst l places counts targets)) (sym h))
 
 -- ---- what a head with nothing wrong says

@@ -12,7 +12,7 @@ use lib.Dec.{ltb}
 use lib.ListN.{length, drop}
 use lib.Seq.{sets, sets-eq}
 use borrow.Author.Tests.{lt-ltb, le-ltb}
-use Rattle.octets.specs.Turns.{sets-append}
+use Rattle.scan.specs.Runs.{sets-append}
 use Rattle.paths.specs.Mesh.{width}
 use Rattle.cube.specs.Sizes.{known-most}
 use Rattle.two.specs.Parts.{known-bounds}
@@ -87,7 +87,7 @@ module _ (kind size s k : ℕ) (places counts out : List ℕ) (a : Sheeted kind 
         whole =
             q ∙ ap₂ (λ (x : List ℕ) (y : ℕ). sets x 16 (pathsBytes (pathsOf y places counts k))) p wide
             ∙ ap (λ (x : ℕ). sets (sets out 0 (headBytes kind size s k n)) x (pathsBytes ps)) (sym (head-length kind size s k n) ∙ sym (zero-add (length (headBytes kind size s k n))))
-            ∙ sym (sets-append (headBytes kind size s k n) (pathsBytes ps) out 0)
+            ∙ sym (sets-append out 0 (headBytes kind size s k n) (pathsBytes ps))
             ∙ ap (sets out 0) (ap (λ (x : List ℕ). x ++ pathsBytes ps) headed ∙ sheet-is kind size s ps (single .0) (single .1) (omega (arith, counted, a .paths .headed .few)))
             ∙ sets-eq (bytes kind size s k places counts) out 0 (omega (arith, long))
             ∙ ap (λ (x : ℕ). bytes kind size s k places counts ++ drop x out) (zero-add (length (bytes kind size s k places counts)))

@@ -14,7 +14,7 @@ use lib.ListN.{length, getD, drop, length-append}
 use lib.Seq.{sets, length-sets, sets-eq, append-snoc}
 use borrow.Author.Tests.{lt-ltb, le-ltb}
 use Rattle.octets.specs.Big.{big, big-length, big-more}
-use Rattle.octets.specs.Turns.{sets-append}
+use Rattle.scan.specs.Runs.{sets-append}
 use Rattle.paths.specs.Mesh.{width}
 use Rattle.paths.specs.Fan.{hops}
 use Rattle.paths.specs.Lists.{ahead, ahead-length}
@@ -137,7 +137,7 @@ relayed-starts places from n at out = record { within = omega arith; long = refl
 
 -- a piece after what was put
 after-put : (a b out : List ℕ) (at to : ℕ) → to ≡ at + length a → sets (sets out at a) to b ≡ sets out at (a ++ b)
-after-put a b out at to e = ap (λ (i : ℕ). sets (sets out at a) i b) e ∙ sym (sets-append a b out at)
+after-put a b out at to e = ap (λ (i : ℕ). sets (sets out at a) i b) e ∙ sym (sets-append out at a b)
 
 pub relayed-more : {places : List ℕ} {from n at : ℕ} {out₀ out out₁ : List ℕ} {i x : ℕ} → Relayed places from n at out₀ out i → i < n → x ≡ getD places (from + i) 0
     → out₁ ≡ sets out (at + i * 8) (big 8 x) → Relayed places from n at out₀ out₁ (i + 1)

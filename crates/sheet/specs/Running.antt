@@ -7,7 +7,7 @@ use native.Mathlib.Omega.{arith}
 use lib.ListN.{length, set, replicate, length-set, length-replicate, replicate-append-replicate}
 use lib.Seq.{sets}
 use Rattle.octets.specs.Big.{number}
-use Rattle.octets.specs.Turns.{sets-append}
+use Rattle.scan.specs.Runs.{sets-append}
 use Rattle.sheet.specs.Format.{relaysAt}
 
 -- the first i numbers of a run are written from the place `to` on
@@ -32,7 +32,7 @@ running-more {run} {x} {to} {n} {l₀} {l} {i} {y} r v h e = record {
   is =
       ap₂ (λ (o : List ℕ) (z : ℕ). set o (to + i) z) (v .is) e
       ∙ ap (λ (p : ℕ). set (sets l₀ to (run i)) (to + p) (x i)) (sym (r .count i))
-      ∙ sym (sets-append (run i) (x i ∷ []) l₀ to)
+      ∙ sym (sets-append l₀ to (run i) (x i ∷ []))
       ∙ ap (sets l₀ to) (sym (r .more i) ∙ ap run (sym (add-one i)));
 }
 

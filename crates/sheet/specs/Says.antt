@@ -60,6 +60,12 @@ settled (some f) a b = b
 pub data WriteTold : Type 0 where
   wrote : (number bytes : ℕ) → WriteTold
 
+abbrev pub writtenNumber : WriteTold → ℕ
+writtenNumber (wrote n bytes) = n
+
+abbrev pub writtenBytes : WriteTold → ℕ
+writtenBytes (wrote n bytes) = bytes
+
 abbrev pub tellWritten : Option Flaw → ℕ → WriteTold
 tellWritten none n = wrote 0 n
 tellWritten (some f) n = wrote (flawNumber f) 0
@@ -91,6 +97,24 @@ module _ (kind size s : ℕ) (targets places counts out : List ℕ) where
 -- number and path; kind, size, source and how many paths
 pub data ReadTold : Type 0 where
   reads : (number path kind size source k : ℕ) → ReadTold
+
+abbrev pub readNumber : ReadTold → ℕ
+readNumber (reads n i kind size s k) = n
+
+abbrev pub readPath : ReadTold → ℕ
+readPath (reads n i kind size s k) = i
+
+abbrev pub readKind : ReadTold → ℕ
+readKind (reads n i kind size s k) = kind
+
+abbrev pub readSize : ReadTold → ℕ
+readSize (reads n i kind size s k) = size
+
+abbrev pub readSource : ReadTold → ℕ
+readSource (reads n i kind size s k) = s
+
+abbrev pub readCount : ReadTold → ℕ
+readCount (reads n i kind size s k) = k
 
 abbrev pub tellRead : Option Flaw → (kind size source k : ℕ) → ReadTold
 tellRead none kind size s k = reads 0 0 kind size s k

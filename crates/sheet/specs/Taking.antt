@@ -11,7 +11,7 @@ use lib.Dec.{eqb}
 use lib.ListN.{length, take, drop, set, replicate, length-append, length-set, length-replicate}
 use lib.Seq.{sets, length-sets, sets-eq, take-at}
 use Rattle.octets.specs.Big.{number}
-use Rattle.octets.specs.Turns.{sets-append}
+use Rattle.scan.specs.Runs.{sets-append}
 use Rattle.paths.specs.Fan.{filler}
 use Rattle.mesh.specs.Kinds.{kindOf}
 use Rattle.judge.specs.Rows.{row-below}
@@ -31,7 +31,7 @@ unfolding row
 row-taken s longest to h l path {l₁} {l₂} e p q =
     q ∙ ap (λ (x : List ℕ). sets x (to + 1 + h) (replicate (longest - h) filler)) (p ∙ ap (λ (i : ℕ). sets (set l to s) i path) (add-one to))
     ∙ ap₂ (λ (i n : ℕ). sets (sets l to (s ∷ path)) i (replicate n filler)) place (ap (λ (n : ℕ). longest - n) (sym e))
-    ∙ sym (sets-append (s ∷ path) (replicate (longest - length path) filler) l to)
+    ∙ sym (sets-append l to (s ∷ path) (replicate (longest - length path) filler))
   where
     place : to + 1 + h ≡ to + suc (length path)
     place = omega (arith, e)
@@ -164,7 +164,7 @@ module _ {l : List ℕ} {s longest k : ℕ} {places₀ counts₀ targets₀ plac
 
   -- a piece after what was put at the front
   piece : (a b l₀ : List ℕ) {n : ℕ} → length a ≡ n → sets (sets l₀ 0 a) n b ≡ sets l₀ 0 (a ++ b)
-  piece a b l₀ e = ap (λ (p : ℕ). sets (sets l₀ 0 a) p b) (sym e ∙ sym (zero-add (length a))) ∙ sym (sets-append a b l₀ 0)
+  piece a b l₀ e = ap (λ (p : ℕ). sets (sets l₀ 0 a) p b) (sym e ∙ sym (zero-add (length a))) ∙ sym (sets-append l₀ 0 a b)
 
   pub taking-more : {hops x at₁ : ℕ} {places₁ : List ℕ} → hops ≡ hopsAt l at → places₁ ≡ sets places (i * (longest + 1)) (row s longest (relaysAt l (at + 2) hops)) → x ≡ number l (at + 2 + hops * 8 - 8) 8
       → at₁ ≡ at + 2 + hops * 8 → Taking l s longest k places₀ counts₀ targets₀ places₁ (set counts i hops) (set targets i x) at₁ (i + 1)

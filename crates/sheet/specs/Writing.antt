@@ -1,4 +1,4 @@
--- Why the writer keeps its promise: a fan can be written (`sheeted-of`, `fan-sheeted`); what is told by what the judge says (`wrote-fan`, `wrote-short`, `wrote-not`).
+-- Why the writer keeps its promise: a fan can be written (`judged-sheeted`, `fan-sheeted`); what is told by what the judge says (`wrote-fan`, `wrote-short`, `wrote-not`).
 -- Assumes nothing.
 use Prim.Native.Nat.{ℕ, _+_, _*_, _≤_, _<_}
 use mathlib.Core.Path.{_≡_, refl, sym, ap, ap₂, _∙_}
@@ -12,15 +12,9 @@ use lib.ListN.{length, drop}
 use borrow.Author.Tests.{eq-eqb, ne-eqb}
 use Rattle.scan.specs.Scan.{pick}
 use Rattle.paths.specs.Mesh.{width}
-use Rattle.paths.specs.Fan.{Fan}
-use Rattle.paths.specs.Finding.{clean, finding}
-use Rattle.paths.specs.Judged.{clean-fan}
 use Rattle.mesh.specs.Kinds.{kindOf, meshOf}
 use Rattle.mesh.specs.Laws.{known-small}
-use Rattle.mesh.specs.Says.{short}
-use Rattle.mesh.specs.Requests.{Fine, request-passed, room-enough}
-use Rattle.judge.specs.Verdict.{judgeAgainst}
-use Rattle.judge.specs.Numbers.{finding-numbered, rule-zero}
+use Rattle.sheet.specs.Judging.{Judged, judged, judged-fine}
 use Rattle.sheet.specs.Says.{settled, tellWritten, sheet, ruled, writeAgainst, Wrote}
 use Rattle.sheet.specs.Total.{Sheeted, Put, putAgainst}
 use Rattle.sheet.specs.declared.Flaw.{Flaw}
@@ -28,22 +22,21 @@ use Rattle.sheet.specs.declared.Flaw.the-variants as flaw
 use Rattle.sheet.specs.declared.Written.{Written}
 use Rattle.sheet.specs.declared.Written.the-variants as written
 
--- the paths of a fan that stands in slices long enough for it
-pub sheeted-of : (kind size s : ℕ) (targets places counts : List ℕ) → Fan (meshOf kind size) s targets places counts → Fine (kindOf kind) size s targets
-    → short (meshOf kind size) (length targets) (length places) (length counts) ≡ false → Sheeted kind size (length targets) (length places) counts
-sheeted-of kind size s targets places counts fan fine wide =
+-- what the judge accepts can be written
+pub judged-sheeted : (kind size s : ℕ) (targets places counts : List ℕ) → Judged (kindOf kind) size s targets places counts → Sheeted kind size (length targets) (length places) counts
+judged-sheeted kind size s targets places counts j =
+    let fine = judged-fine (kindOf kind) size s targets j in
     let small = known-small kind size (fine .known) in
-    let room = room-enough (meshOf kind size) (length targets) (length places) (length counts) wide in
     record {
       known = fine .known;
       paths = record {
         headed = record {
           few = omega (arith, fine .sound .few, small .0);
-          counted = room .1;
-          short = λ i h. omega (arith, fan .path i h .short, small .1);
+          counted = j .counted;
+          short = λ i h. omega (arith, j .fan .path i h .short, small .1);
         };
-        room = room .0;
-        within = λ i h. omega (arith, fan .path i h .short);
+        room = j .room;
+        within = λ i h. omega (arith, j .fan .path i h .short);
       };
     }
 
@@ -56,17 +49,8 @@ module _ (kind size s : ℕ) (targets places counts out : List ℕ) where
 
   -- ---- where the judge says 0
   module _ (z : says ≡ 0) where
-    passed : (judgeAgainst (kindOf kind) size s targets places counts false ≡ none) × (finding (meshOf kind size) s targets places counts ≡ clean)
-    passed = rule-zero (judgeAgainst (kindOf kind) size s targets places counts false) (finding (meshOf kind size) s targets places counts) (finding-numbered (meshOf kind size) s targets places counts) z
-
-    pub written-fan : Fan (meshOf kind size) s targets places counts
-    written-fan = clean-fan (meshOf kind size) s targets places counts (passed .1)
-
-    pub written-fine : Fine (kindOf kind) size s targets × (short (meshOf kind size) k (length places) (length counts) ≡ false)
-    written-fine = request-passed (kindOf kind) size s targets (short (meshOf kind size) k (length places) (length counts)) (passed .0)
-
     pub fan-sheeted : Sheeted kind size k (length places) counts
-    fan-sheeted = sheeted-of kind size s targets places counts written-fan (written-fine .0) (written-fine .1)
+    fan-sheeted = judged-sheeted kind size s targets places counts (judged (kindOf kind) size s targets places counts z)
 
     against-put : putAgainst kind size s k places counts out ≡ writeAgainst kind size s targets places counts out
     against-put =

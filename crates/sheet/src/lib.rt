@@ -87,6 +87,80 @@ impl Flaw {
     }
 }
 
+impl Written {
+    // 0, or the number of what stands against it.
+    pub fn number(self) -> u64
+        ensures { λ r. ⌜ r ≡ says.writtenNumber (says.writtenTold self) ⌝ }
+    {
+        match self {
+            Written::Bytes(_) => 0,
+            Written::Refused(f) => f.number(),
+        }
+    }
+
+    // How many bytes the sheet takes, and 0 of a refusal.
+    pub fn bytes(self) -> usize
+        ensures { λ r. ⌜ r ≡ says.writtenBytes (says.writtenTold self) ⌝ }
+    {
+        match self {
+            Written::Bytes(n) => n,
+            Written::Refused(_) => 0,
+        }
+    }
+}
+
+impl Reading {
+    // 0, or the number of what stands against it.
+    pub fn number(self) -> u64
+        ensures { λ r. ⌜ r ≡ says.readNumber (says.readingTold self) ⌝ }
+    {
+        match self {
+            Reading::Fan(_, _, _) => 0,
+            Reading::Refused(f) => f.number(),
+        }
+    }
+
+    // The path that 34 tells, and 0 of all else.
+    pub fn path(self) -> usize
+        ensures { λ r. ⌜ r ≡ says.readPath (says.readingTold self) ⌝ }
+    {
+        match self {
+            Reading::Fan(_, _, _) => 0,
+            Reading::Refused(f) => f.path(),
+        }
+    }
+
+    // The mesh, and kind 0 and size 0 of a refusal.
+    pub fn mesh(self) -> Mesh
+        ensures { λ r. ⌜ (r .kind ≡ says.readKind (says.readingTold self)) × (r .size ≡ says.readSize (says.readingTold self)) ⌝ }
+    {
+        match self {
+            Reading::Fan(mesh, _, _) => mesh,
+            Reading::Refused(_) => Mesh { kind: 0, size: 0 },
+        }
+    }
+
+    // The source, and 0 of a refusal.
+    pub fn source(self) -> u64
+        ensures { λ r. ⌜ r ≡ says.readSource (says.readingTold self) ⌝ }
+    {
+        match self {
+            Reading::Fan(_, source, _) => source,
+            Reading::Refused(_) => 0,
+        }
+    }
+
+    // How many paths, and 0 of a refusal.
+    pub fn paths(self) -> usize
+        ensures { λ r. ⌜ r ≡ says.readCount (says.readingTold self) ⌝ }
+    {
+        match self {
+            Reading::Fan(_, _, k) => k,
+            Reading::Refused(_) => 0,
+        }
+    }
+}
+
 // Writes the sheet of a fan from the source to the targets at the front of `out`, and gives its length. Path i begins at place i * W of the places, where W is
 // `mesh.places()`, and its hops stand in the counts at i. In the cube of 1 dimension, from 0 to 1, it is 00 00 00 16 01 01 01 01, eight 00, 00 01, seven 00,
 // 01: 26 bytes. Refuses with 35 what is no request or no fan, with 8 where places, counts or, for a fan, `out` are too short, and then writes nothing.

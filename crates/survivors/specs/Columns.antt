@@ -43,7 +43,7 @@ marks-more : (test : ℕ → Bool) (i : ℕ) → marks test (i + 1) ≡ marks te
 unfolding marks
 marks-more test i = simp add-one
 
-marks-length : (test : ℕ → Bool) (n : ℕ) → length (marks test n) ≡ n
+pub marks-length : (test : ℕ → Bool) (n : ℕ) → length (marks test n) ≡ n
 unfolding marks
 marks-length test zero = refl
 marks-length test (suc n) = simp length-append (omega (arith, marks-length test n))

@@ -38,7 +38,7 @@ use Rattle.survivors.specs.declared.Tally.the-variants as tally
 pub settled-is : {A : Type 0} (a b : A) {o : Option Refusal} {f : Finding} → o ≡ none → f ≡ clean → settled o f a b ≡ a
 settled-is a b p q = ap₂ (λ (o : Option Refusal) (f : Finding). settled o f a b) p q
 
-settled-not : {A : Type 0} (a b : A) (o : Option Refusal) (f : Finding) → numberOf (rule o f) ≢ 0 → settled o f a b ≡ b
+pub settled-not : {A : Type 0} (a b : A) (o : Option Refusal) (f : Finding) → numberOf (rule o f) ≢ 0 → settled o f a b ≡ b
 settled-not a b none clean ne = absurd (ne refl)
 settled-not a b none (found n i p) ne = refl
 settled-not a b (some why) f ne = refl

@@ -68,9 +68,6 @@ module _ (m : ℕ) (h : m ≤ 5) where
   pub slots-few : slots m ≤ 32
   slots-few = pow-mono h
 
-  pub blocks-few : blocks m ≤ 2 ^ 32
-  blocks-few = pow-mono slots-few
-
   pub relays-few : relays m ≤ 2 ^ 37
   relays-few = pow-mono {j = 37} (omega (arith, slots-few))
 
@@ -104,7 +101,3 @@ module _ (m b p : ℕ) where
   named-slot-out e h g =
       named-known e
       ∙ ap₂ (λ (x y : Bool). pick (x && y) (relay m b p) (relays m)) (lt-ltb b (blocks m) h) (le-ltb p (slots m) g)
-
--- a relay's number, split and put together again
-pub named-parts : (m r : ℕ) → known m ≡ true → r < relays m → named m (blockOf m r) (slotOf m r) ≡ r
-named-parts m r e h = named-relay m (blockOf m r) (slotOf m r) e (block-below m r h) (slot-below m r) ∙ relay-parts m r

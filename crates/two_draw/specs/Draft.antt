@@ -39,7 +39,7 @@ pub record Planned (m s0 p0 k : ℕ) (blocks slots : List ℕ) (c : Choice) (g :
   pub asks : Asks m s0 p0 k blocks slots
   pub chose : Chosen m s0 p0 k blocks slots c
   pub fan : Doors (2 ^ m) (2 ^ (2 ^ m) - 1) s0 (c .shut) (c .rows) (at (c .ends)) (hops g)
-  pub long : length g ≡ 1120
+  pub long : length g ≡ 560
 
 pub record State (m s0 p0 k : ℕ) (blocks slots : List ℕ) (c : Choice) (o : Taken) (g : List ℕ) : Type 0 where
   pub planned : Planned m s0 p0 k blocks slots c g
@@ -85,7 +85,7 @@ module _ {m s0 p0 k : ℕ} {blocks slots : List ℕ} {c : Choice} (a : Asks m s0
   rep-in : (r : ℕ) → bit r (c .reps) ≡ 1 → (r < k) × (bit r (c .gated) ≡ 1)
   rep-in r o = let g = h .end .reps-on r o .0 in (h .sort .gated-on r g .0, g)
 
-  pub rows-within : (x : ℕ) → bit x (c .rows) ≡ 1 → x < 32
+  pub rows-within : (x : ℕ) → bit x (c .rows) ≡ 1 → x < 16
   rows-within x o = ⊎-elim
       (λ s. omega (arith, h .end .single-on x s .0, few-targets))
       (λ (r, p, e). omega (arith, rep-in r p .0, few-targets)) (h .end .row-from x o)
@@ -145,7 +145,7 @@ module _ {m s0 p0 k : ℕ} {blocks slots : List ℕ} {c : Choice} {o : Taken} {g
   single-on = let e = s .planned .chose .end in e .row-single j (e .single-off j lt outer curved)
 
   -- what reading its first block asks
-  pub first-ask : (j < 32) × (length g ≡ 1120) × (length (hops g j) < 34) × (0 < length (hops g j))
+  pub first-ask : (j < 16) × (length g ≡ 560) × (length (hops g j) < 34) × (0 < length (hops g j))
   first-ask =
       let d = way-of (s .planned) j single-on .door in
       (omega (arith, few-targets (s .planned .asks) (s .planned .chose)), s .planned .long, way-short (s .planned) j single-on, omega (arith, ap length (d .first)))

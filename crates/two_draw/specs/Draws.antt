@@ -62,7 +62,7 @@ module _ {m s0 p0 k w : ℕ} {blocks slots places counts : List ℕ} (d : Draws 
   pub all-inside : AllInside s0 p0 k slots c o g
   all-inside = record { m = m; blocks = blocks; state = stated }
 
-  module _ {leaves : List ℕ} {walkers : ℕ} (l : Filled 32 k (Leaves s0 p0 slots c o g) leaves) (x : Chosen (λ j. at leaves j ≢ p0) (λ j. at leaves j ≡ p0) (2 ^ k - 1) walkers) where
+  module _ {leaves : List ℕ} {walkers : ℕ} (l : Filled 16 k (Leaves s0 p0 slots c o g) leaves) (x : Chosen (λ j. at leaves j ≢ p0) (λ j. at leaves j ≡ p0) (2 ^ k - 1) walkers) where
     pub head-ask : (free : ℕ) → free ≡ 2 ^ m - 1 → Ask free p0 0 walkers leaves
     head-ask free e = heads-ask stated leaves (l .each) x (d .some) free e
 

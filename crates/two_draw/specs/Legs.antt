@@ -66,7 +66,7 @@ blocks-room m n le = omega (arith, mul-le-mul-right (suc m) le, suc-mul (2 ^ m) 
 pub record Leg (m s0 p0 k : ℕ) (blocks slots : List ℕ) (c : Choice) (o : taken.Taken) (g : List ℕ) (j leave row n last len : ℕ) (tail : List ℕ) : Type 0 where
   pub goes : 0 < n → Goes m s0 g row
   pub some : n ≤ length (hops g row)
-  pub row-in : row < 32
+  pub row-in : row < 16
   pub first : 0 < n → getD (hops g row) 0 0 ≡ flip s0 leave
   pub leave-in : leave < 2 ^ m
   pub last-in : last < 2 ^ m
@@ -174,7 +174,7 @@ module _ {m s0 p0 k : ℕ} {blocks slots : List ℕ} {c : Choice} {o : taken.Tak
     goes-on : Goes m s0 g j
     goes-on = record { end = at (c .ends) j; walk = way .walk; few = way-short (s .planned) j on }
 
-    few-j : j < 32
+    few-j : j < 16
     few-j = omega (arith, s .planned .asks .ask .few, s .planned .asks .high)
 
     all : take (length (hops g j)) (hops g j) ≡ hops g j

@@ -11,7 +11,7 @@ use Rattle.two_write.specs.Row.{hops}
 use Rattle.two_fan.specs.Relays.{Relay, inside, length-inside}
 use Rattle.two_fan.specs.Through.{Crosses, crosses-short}
 use Rattle.two_fan.specs.Numbers.{numbers, numbers-append, length-numbers}
-use Rattle.two_write.specs.Walked.{sets-append}
+use Rattle.scan.specs.Runs.{sets-append}
 use Rattle.two_write.specs.Blocks.{Goes, Ways, Crossed}
 use Rattle.two_write.specs.Slots.{Below, Slotted}
 
@@ -24,18 +24,18 @@ headIf false l = []
 pub record HeadAsk (m s0 : ℕ) (heads : List ℕ) (j : ℕ) (walks : Bool) : Type 0 where
   pub order : m ≤ 5
   pub home : s0 < 2 ^ (2 ^ m)
-  pub row : j < 32
-  pub long : length heads ≡ 1120
+  pub row : j < 16
+  pub long : length heads ≡ 560
   pub few : walks ≡ true → length (hops heads j) < 34
   pub below : walks ≡ true → Below m (length (hops heads j)) (hops heads j)
 
 pub record PathAsk (m s0 b : ℕ) (heads : List ℕ) (j : ℕ) (walks : Bool) (g : List ℕ) (leave row n last len : ℕ) (tail : List ℕ) (at size : ℕ) : Type 0 where
   pub head : HeadAsk m s0 heads j walks
   pub block : b < 2 ^ (2 ^ m)
-  pub long : length g ≡ 1120
+  pub long : length g ≡ 560
   pub goes : 0 < n → Goes m s0 g row
   pub some : n ≤ length (hops g row)
-  pub row-in : row < 32
+  pub row-in : row < 16
   pub first : 0 < n → getD (hops g row) 0 0 ≡ flip s0 leave
   pub leave-in : leave < 2 ^ m
   pub last-in : last < 2 ^ m

@@ -106,7 +106,7 @@ module _ {m s0 p0 k : ℕ} {blocks slots : List ℕ} {c : Choice} {o : taken.Tak
       (λ x i. ⊎-elim (walked x) (λ z. ⊎-elim (λ e. subst (λ (y : ℕ). y < 2 ^ m) (sym e) (s .planned .asks .slot who)) (λ w. absurd w) z)
       (in-append x (o .enter ∷ t .tailed .cut) (at slots who ∷ []) i))) (t .tailed .ends)
 
-  few-rows : row < 32
+  few-rows : row < 16
   few-rows =
       let x = s .planned .chose .end .reps-on (t .r) (t .rep) .0 in
       omega (arith, s .planned .chose .sort .gated-on (t .r) x .0, s .planned .asks .ask .few, s .planned .asks .high)
@@ -145,7 +145,7 @@ module _ {m s0 p0 k : ℕ} {blocks slots : List ℕ} {c : Choice} {o : taken.Tak
       (subst (λ (y : ℕ). Leg m s0 p0 k blocks slots c o g who p0 y n (o .enter) (o .len) (o .tail)) (sym at-row) (leg n (en ∙ ap (λ (y : ℕ). length (hops g y)) at-row))))
 
   -- its row can be read
-  pub taken-row : (o .row < 32) × (length (hops g (o .row)) < 34) × (0 < length (hops g (o .row)))
+  pub taken-row : (o .row < 16) × (length (hops g (o .row)) < 34) × (0 < length (hops g (o .row)))
   taken-row = rw (t .row-is) (few-rows, way-short (s .planned) row on, omega (arith, size))
 
 -- whoever takes over does

@@ -29,7 +29,7 @@ fn leave_of(
     slots: [u32; 8],
     c: Choice,
     o: Taken,
-    grid: &[u64; 1120],
+    grid: &[u64; 560],
     j: u32,
 ) -> u32
     requires { ⌜ Inside s0 p0 slots c o (now grid) j ⌝ }
@@ -68,8 +68,8 @@ fn gate_tail(gate: u32, slot: u32) -> Tail
 }
 
 // How many relays the path of a row has after its source.
-fn row_len(grid: &[u64; 1120], row: usize) -> usize
-    requires { ⌜ (row < 32) × (length (hops (now grid) row) < 34) ⌝ }
+fn row_len(grid: &[u64; 560], row: usize) -> usize
+    requires { ⌜ (row < 16) × (length (hops (now grid) row) < 34) ⌝ }
     ensures { λ r. ⌜ r ≡ length (hops (now (grid .entry)) row) ⌝ }
 {
     grid[row * 35] as usize
@@ -85,7 +85,7 @@ pub struct Leg {
 }
 
 // The rest of the path of j.
-fn leg_of(slots: [u32; 8], c: Choice, o: Taken, grid: &[u64; 1120], j: u32) -> Leg
+fn leg_of(slots: [u32; 8], c: Choice, o: Taken, grid: &[u64; 560], j: u32) -> Leg
     requires { ⌜ Somewhere slots c o (now grid) j ⌝ }
     ensures { λ r. ⌜ ((m s0 p0 k leave : ℕ) (blocks : List ℕ) → j < k → State m s0 p0 k blocks slots c o (now (grid .entry)) → Leaves s0 p0 slots c o (now (grid .entry)) j leave → legs.Leg m s0 p0 k blocks slots c o (now (grid .entry)) j leave (r .row) (r .n) (r .last) (r .len) (r .tail)) ⌝ }
 {
@@ -148,7 +148,7 @@ fn leg_of(slots: [u32; 8], c: Choice, o: Taken, grid: &[u64; 1120], j: u32) -> L
 fn write_head_if(
     m: u32,
     s0: u64,
-    heads: &[u64; 1120],
+    heads: &[u64; 560],
     j: usize,
     walks: bool,
     at: usize,
@@ -169,12 +169,12 @@ fn write_path(
     s0: u64,
     b: u64,
     source: u64,
-    heads: &[u64; 1120],
+    heads: &[u64; 560],
     j: usize,
     walks: bool,
     leave: u32,
     leg: Leg,
-    grid: &[u64; 1120],
+    grid: &[u64; 560],
     at: usize,
     out: &mut [u64],
 ) -> u64
@@ -233,12 +233,12 @@ fn leaves_of(
     c: Choice,
     o: Taken,
     k: u32,
-    grid: &[u64; 1120],
-) -> [u64; 32]
+    grid: &[u64; 560],
+) -> [u64; 16]
     requires { ⌜ AllInside s0 p0 k slots c o (now grid) ⌝ }
-    ensures { λ r. ⌜ Filled 32 k (Leaves s0 p0 slots c o (now (grid .entry))) r ⌝ }
+    ensures { λ r. ⌜ Filled 16 k (Leaves s0 p0 slots c o (now (grid .entry))) r ⌝ }
 {
-    let mut r = [0u64; 32];
+    let mut r = [0u64; 16];
     let mut j: u32 = 0;
     while j < k {
         r[j as usize] = leave_of(s0, p0, slots, c, o, grid, j) as u64;
@@ -248,7 +248,7 @@ fn leaves_of(
 }
 
 // The targets whose paths leave by another slot than the source's.
-fn walkers_of(leaves: [u64; 32], p0: u32, k: u32) -> u64
+fn walkers_of(leaves: [u64; 16], p0: u32, k: u32) -> u64
     requires { ⌜ k ≤ 8 ⌝ }
     ensures { λ r. ⌜ Chosen (λ j. at leaves j ≢ p0) (λ j. at leaves j ≡ p0) (2 ^ k - 1) r ⌝ }
 {
@@ -271,9 +271,9 @@ fn put_path(
     slots: [u32; 8],
     c: Choice,
     o: Taken,
-    leaves: [u64; 32],
-    heads: &[u64; 1120],
-    grid: &[u64; 1120],
+    leaves: [u64; 16],
+    heads: &[u64; 560],
+    grid: &[u64; 560],
     j: u32,
     at: usize,
     out: &mut [u64],
@@ -313,9 +313,9 @@ fn write_paths(
     slots: [u32; 8],
     c: Choice,
     o: Taken,
-    leaves: [u64; 32],
-    heads: &[u64; 1120],
-    grid: &[u64; 1120],
+    leaves: [u64; 16],
+    heads: &[u64; 560],
+    grid: &[u64; 560],
     places: &mut [u64],
     counts: &mut [u64],
 )
@@ -381,11 +381,13 @@ fn draw(
     let c = two_sort::choose(m, s0, p0, k, blocks, slots);
     let ends = c.ends;
     let gates = c.gates;
-    let ways = two_rows::plan_rows(block_bits(m), s0, c.shut, c.rows, ends);
+    let mut ways = [0u64; 560];
+    two_rows::plan_rows(block_bits(m), s0, c.shut, c.rows, ends, &mut ways);
     let o = two_taken::take_over(m, s0, p0, k, blocks, slots, gates, c.gated, c.reps, &ways);
     let leaves = leaves_of(s0, p0, slots, c, o, k, &ways);
     let walkers = walkers_of(leaves, p0, k);
-    let heads = two_rows::plan_rows(dimensions(m), p0 as u64, 0, walkers, leaves);
+    let mut heads = [0u64; 560];
+    two_rows::plan_rows(dimensions(m), p0 as u64, 0, walkers, leaves, &mut heads);
     write_paths(
         m,
         s0,

@@ -8,13 +8,12 @@ use lib.ListN.{length, getD, length-append}
 use lib.Bits.{bitXor, bitOr, differ}
 use lib.Count.{ones, ones-ones}
 use Rattle.bits.specs.Bit.{bit, flip, Lowest}
-use Rattle.bits.specs.Laws.{bit-cases, bit-none, bit-xor, differ-self, flip-other, ones-zero, clash, bit-pow-same, bit-pow-other, ones-pow, ones-clear, lt-or-le}
+use Rattle.bits.specs.Laws.{bit-cases, bit-none, bit-xor, differ-self, flip-other, ones-zero, clash, bit-pow-same, bit-pow-other, ones-clear, lt-or-le}
 use Rattle.doors.specs.Doors.{In, Fresh, Walk}
 use Rattle.doors.specs.Paths.{same-or, not-cons}
-use Rattle.doors.specs.Masks.{ones-add, bit-or}
 use Rattle.doors.specs.Plain.{bit-full, bit-high, full-below}
 use Rattle.doors.specs.Single.{rank, rank-less, rank-le}
-use Rattle.doors.specs.Choose.{Chosen, Used, cleared, or-on, or-left, or-right, ones-or}
+use Rattle.doors.specs.Choose.{Chosen, Used, cleared, or-on, or-left, or-right}
 use Rattle.doors.specs.Loops.{Plus}
 use Rattle.two_fan.specs.Relays.{Relay, inside, in-append, walk-more, fresh-more}
 use Rattle.two_fan.specs.Through.{Stroll, Crosses}
@@ -45,28 +44,6 @@ chosen-no {A} {B} {r} n c b = record {
 }
 
 -- ---- the values of its members, each added with its index
-
-pub used-none : (R : ℕ → ℕ → Type 0) → Used R 0 0
-used-none R = record { uses = λ j o. absurd (clash (bit-none j) o); from = λ i o. absurd (clash (bit-none i) o); few = omega arith }
-
-pub used-more : {R : ℕ → ℕ → Type 0} {s r : ℕ} (n a : ℕ) → Used R s r → bit n s ≡ 0 → R n a → Used R (bitOr s (2 ^ n)) (bitOr r (2 ^ a))
-used-more {R} {s} {r} n a u z k = record {
-  uses = λ j o. ⊎-elim (λ p. let x = u .uses j p in (x .0, x .1, or-left (x .0) r (2 ^ a) (x .2)))
-      (λ p. (a, subst (λ (y : ℕ). R y a) (sym (only j n p)) k, or-right a r (2 ^ a) (bit-pow-same a))) (or-on j s (2 ^ n) o);
-  from = λ i o. ⊎-elim (λ p. let x = u .from i p in (x .0, or-left (x .0) s (2 ^ n) (x .1), x .2))
-      (λ p. (n, or-right n s (2 ^ n) (bit-pow-same n), subst (R n) (sym (only i a p)) k)) (or-on i r (2 ^ a) o);
-  few = omega (arith, u .few, ones-or r (2 ^ a), ones-pow a, size);
-}
-  where
-    size : ones (bitOr s (2 ^ n)) ≡ ones s + 1
-    size = ones-add (bitOr s (2 ^ n)) s (2 ^ n) parts ∙ ap (λ (y : ℕ). ones s + y) (ones-pow n)
-      where
-        parts : (i : ℕ) → bit i (bitOr s (2 ^ n)) ≡ bit i s + bit i (2 ^ n)
-        parts i = ⊎-elim
-            (λ e. let p : bit i (2 ^ n) ≡ 1 = subst (λ (y : ℕ). bit y (2 ^ n) ≡ 1) (sym e) (bit-pow-same n) in
-            let q : bit i s ≡ 0 = subst (λ (y : ℕ). bit y s ≡ 0) (sym e) z in omega (arith, or-right i s (2 ^ n) p))
-            (λ ne. let p : bit i (2 ^ n) ≡ 0 = bit-pow-other i n ne in
-            ⊎-elim (λ (y : bit i s ≡ 0). omega (arith, bit-or i s (2 ^ n))) (λ (y : bit i s ≡ 1). omega (arith, or-left i s (2 ^ n) y)) (bit-cases i s)) (same-or i n)
 
 -- ---- a walk in a block, slot by slot: from p, at u, towards q
 
@@ -191,34 +168,6 @@ pub record Choosing (A B : ℕ → Type 0) (m todo r : ℕ) : Type 0 where
   pub holds : (j : ℕ) → bit j r ≡ 1 → A j
   pub fails : (j : ℕ) → bit j m ≡ 1 → bit j todo ≡ 0 → bit j r ≡ 0 → B j
   pub ahead : (j : ℕ) → bit j todo ≡ 1 → bit j m ≡ 1
-
-pub choosing-none : (A B : ℕ → Type 0) (m : ℕ) → Choosing A B m m 0
-choosing-none A B m = record {
-  sub = λ j o. absurd (clash (bit-none j) o);
-  holds = λ j o. absurd (clash (bit-none j) o);
-  fails = λ j o z. absurd (clash z o);
-  ahead = λ j o. o;
-}
-
-pub choosing-yes : {A B : ℕ → Type 0} {m todo r : ℕ} (j new : ℕ) → Choosing A B m todo r → bit j todo ≡ 1 → A j → Plus r j new → Choosing A B m (flip todo j) new
-choosing-yes {A} {B} {m} {todo} {r} j new k o a p = record {
-  sub = λ i q. ⊎-elim (k .sub i) (λ e. subst (λ (y : ℕ). bit y m ≡ 1) (sym e) (k .ahead j o)) (p .only i q);
-  holds = λ i q. ⊎-elim (k .holds i) (λ e. subst A (sym e) a) (p .only i q);
-  fails = λ i q z w. ⊎-elim (λ e. absurd (clash w (subst (λ (y : ℕ). bit y new ≡ 1) (sym e) (p .on))))
-      (λ y. k .fails i q y (⊎-elim (λ u. u) (λ u. absurd (clash w (p .keeps i u))) (bit-cases i r))) (gone todo j i z);
-  ahead = λ i q. k .ahead i (cleared todo j o i q .0);
-}
-
-pub choosing-no : {A B : ℕ → Type 0} {m todo r : ℕ} (j : ℕ) → Choosing A B m todo r → bit j todo ≡ 1 → B j → Choosing A B m (flip todo j) r
-choosing-no {A} {B} {m} {todo} {r} j k o b = record {
-  sub = k .sub;
-  holds = k .holds;
-  fails = λ i q z w. ⊎-elim (λ e. subst B (sym e) b) (λ y. k .fails i q y w) (gone todo j i z);
-  ahead = λ i q. k .ahead i (cleared todo j o i q .0);
-}
-
-pub choosing-done : {A B : ℕ → Type 0} {m r : ℕ} → Choosing A B m 0 r → Chosen A B m r
-choosing-done k = record { sub = k .sub; holds = k .holds; fails = λ j o z. k .fails j o (bit-none j) z }
 
 -- the values of the members of m
 pub record Using (R : ℕ → ℕ → Type 0) (m todo r : ℕ) : Type 0 where

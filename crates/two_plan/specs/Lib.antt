@@ -1,4 +1,5 @@
+-- The two-level planner's steps, and case H.
 pub mod Home
 pub mod Sound
-pub mod Promise
 pub mod Steps
+pub mod Cases

@@ -15,13 +15,14 @@ use Rattle.answers.specs.declared.Refusal.the-variants.{NoRoom}
 use Rattle.answers.specs.declared.Checked.{Checked}
 use Rattle.answers.specs.declared.Checked.the-variants as checked
 use Rattle.paths.specs.Mesh.{width}
+use Rattle.paths.specs.Lists.{laid-fan}
+use Rattle.requests.specs.Planned.{Planned, refusal, granted}
 use Rattle.two.specs.Two.{two, known}
 use Rattle.mesh.specs.Kinds.{Kind, kindOf, twos, TWO}
 use Rattle.mesh.specs.Says.{requestAgainst, short}
 use Rattle.mesh.specs.Requests.{Fine, checked-fine, request-refused, request-short, request-granted, room-enough}
 use Rattle.two_write.specs.Rows.{Drawn}
 use Rattle.two_plan.specs.Sound.{Asked}
-use Rattle.two_plan.specs.Promise.{Planned, refusal, planned}
 
 -- orders are 1 to 5
 known-order : (m : ℕ) → known m ≡ true → (1 ≤ m) × (m ≤ 5)
@@ -53,7 +54,7 @@ module _ (m s : ℕ) (targets : List ℕ) (r : Checked) (e : against r ≡ reque
     wanting = short (two m) (length targets) (length places) (length counts)
 
     pub plan-refused : {why : Refusal} → r ≡ checked.Refused why → Planned (requestAgainst twos m s targets wanting) (two m) s targets places counts (checked.Refused why) places counts
-    plan-refused f = refusal (two m) s targets places counts (request-refused twos m s targets e₂ wanting f)
+    plan-refused f = refusal (two m) s targets places counts (sym (request-refused twos m s targets e₂ wanting f))
 
     module _ {flag : Bool} (f : r ≡ checked.Fine) (w : flag ≡ short (kindOf TWO .mesh m) (length targets) (length places) (length counts)) where
       w₂ : flag ≡ wanting
@@ -61,7 +62,7 @@ module _ (m s : ℕ) (targets : List ℕ) (r : Checked) (e : against r ≡ reque
       w₂ = w
 
       pub plan-short : flag ≡ true → Planned (requestAgainst twos m s targets wanting) (two m) s targets places counts (checked.Refused NoRoom) places counts
-      plan-short t = refusal (two m) s targets places counts (request-short twos m s targets e₂ f w₂ t)
+      plan-short t = refusal (two m) s targets places counts (sym (request-short twos m s targets e₂ f w₂ t))
 
       pub asked : flag ≡ false → (size wide : ℕ) → size ≡ m → wide ≡ width (kindOf TWO .mesh m) → Asked size s wide targets places counts
       unfolding kindOf
@@ -78,5 +79,7 @@ module _ (m s : ℕ) (targets : List ℕ) (r : Checked) (e : against r ≡ reque
 
       pub plan-laid : flag ≡ false → (size : ℕ) → size ≡ m → {places₁ counts₁ : List ℕ} → Drawn (two size) s targets places counts places₁ counts₁ → length places₁ ≡ length places
           → length counts₁ ≡ length counts → Planned (requestAgainst twos m s targets wanting) (two m) s targets places counts checked.Fine places₁ counts₁
-      plan-laid t size es {places₁} {counts₁} d long long-counts = planned (two m) s targets places counts (request-granted twos m s targets e₂ f w₂ t)
-          (subst (λ (y : ℕ). Drawn (two y) s targets places counts places₁ counts₁) es d) long long-counts
+      plan-laid t size es {places₁} {counts₁} d₁ long long-counts =
+          let d = subst (λ (y : ℕ). Drawn (two y) s targets places counts places₁ counts₁) es d₁ in
+          granted (two m) s targets places counts places₁ counts₁ (sym (request-granted twos m s targets e₂ f w₂ t))
+          (laid-fan (two m) s targets places₁ counts₁ (d .paths) (d .fan) (d .laid)) (d .rest) (d .kept) long long-counts

@@ -9,7 +9,7 @@ ghost use Rattle.two_plan.specs.Home.{Filling, Home};
 ghost use Rattle.two_plan.specs.Sound.{Asked};
 ghost use Rattle.mesh.specs.Kinds.{twos};
 ghost use Rattle.mesh.specs.Says.{requestAgainst, short};
-ghost use Rattle.two_plan.specs.Promise.{Planned};
+ghost use Rattle.requests.specs.Planned.{Planned};
 use answers::Checked;
 use answers::Refusal;
 use mesh::Mesh;

@@ -13,7 +13,7 @@ use Rattle.two_fan.specs.Relays.{Relay, inside, length-inside}
 use Rattle.two_fan.specs.Through.{Crosses}
 use Rattle.two_fan.specs.Numbers.{numbers, numbers-append, length-numbers}
 use Rattle.two_fan.specs.Round.{round, round-crosses}
-use Rattle.two_write.specs.Walked.{sets-append}
+use Rattle.scan.specs.Runs.{sets-append}
 use Rattle.two_write.specs.Blocks.{Entered}
 
 -- the round trip to the slot a stands from `at` on, its source first; it has r hops

@@ -39,18 +39,18 @@ pub record Trip (m s w : ℕ) (targets places counts : List ℕ) : Type 0 where
 
 pub record Slots (m : ℕ) (targets to : List ℕ) : Type 0 where
   pub is : (j : ℕ) → j < length targets → at to j ≡ slotOf m (getD targets j 0)
-  pub long : length to ≡ 32
+  pub long : length to ≡ 16
 
 -- the first i of them
 pub record Reading (m : ℕ) (targets to : List ℕ) (i : ℕ) : Type 0 where
   pub bound : i ≤ length targets
   pub is : (j : ℕ) → j < i → at to j ≡ slotOf m (getD targets j 0)
-  pub long : length to ≡ 32
+  pub long : length to ≡ 16
 
-pub reading-none : (m : ℕ) (targets to : List ℕ) → length to ≡ 32 → Reading m targets to 0
+pub reading-none : (m : ℕ) (targets to : List ℕ) → length to ≡ 16 → Reading m targets to 0
 reading-none m targets to h = record { bound = omega arith; is = λ j l. absurd (omega arith); long = h }
 
-pub reading-more : {m : ℕ} {targets to : List ℕ} {i : ℕ} (v : ℕ) → Reading m targets to i → i < length targets → length targets ≤ 32 → v ≡ slotOf m (getD targets i 0)
+pub reading-more : {m : ℕ} {targets to : List ℕ} {i : ℕ} (v : ℕ) → Reading m targets to i → i < length targets → length targets ≤ 16 → v ≡ slotOf m (getD targets i 0)
     → Reading m targets (set to i v) (i + 1)
 reading-more {m} {targets} {to} {i} v r h few e = record {
   bound = omega arith;
@@ -69,7 +69,7 @@ pub record Course (m s0 p0 w : ℕ) (to : List ℕ) (row n : ℕ) (g : List ℕ)
   pub home-block : s0 < 2 ^ (2 ^ m)
   pub home-slot : p0 < 2 ^ m
   pub slots : (j : ℕ) → j ≤ m → at to j < 2 ^ m
-  pub long : length g ≡ 1120
+  pub long : length g ≡ 560
   pub few : (j : ℕ) → j < m → length (hops g j) ≤ m + 1
   pub below : (j : ℕ) → j < m → Below m (length (hops g j)) (hops g j)
   pub row-in : row ≤ m
@@ -107,14 +107,14 @@ module _ {m s w : ℕ} {targets places counts to : List ℕ} (q : Trip m s w tar
     trip-fan = subst (λ (n : ℕ). Doors n (2 ^ m - 1) p0 0 (2 ^ m - 1) (at to) (hops g₁)) (ones-ones m)
         (subst (λ (y : ℕ). Doors (ones (y - 1)) (y - 1) p0 0 (y - 1) (at to) (hops g₁)) e (p .fan))
 
-    trip-long : length g₁ ≡ 1120
+    trip-long : length g₁ ≡ 560
     trip-long = p .long
 
     trip-few : (j : ℕ) → j < m → length (hops g₁ j) ≤ m + 1
     trip-few j l = trip-fan .each j (bit-full m j l) .short
 
     -- what searching the paths asks
-    pub trip-finds : (m ≤ 5) × (length g₁ ≡ 1120) × ((j : ℕ) → j < m → length (hops g₁ j) < 34)
+    pub trip-finds : (m ≤ 5) × (length g₁ ≡ 560) × ((j : ℕ) → j < m → length (hops g₁ j) < 34)
     trip-finds = (q .high, trip-long, λ j l. omega (arith, trip-few j l, q .high))
 
     pub trip-course : (row n : ℕ) → Found m g₁ (at to m) row n → Course m s0 p0 w to row n g₁

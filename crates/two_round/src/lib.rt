@@ -20,11 +20,11 @@ pub struct Spot {
 }
 
 // The slots of the targets.
-fn slots_of(order: Order, targets: &[u64]) -> [u64; 32]
-    requires { ⌜ (order .0 ≤ 5) × (length (now targets) ≤ 32) ⌝ }
+fn slots_of(order: Order, targets: &[u64]) -> [u64; 16]
+    requires { ⌜ (order .0 ≤ 5) × (length (now targets) ≤ 16) ⌝ }
     ensures { λ r. ⌜ Slots (order .0) (now (targets .entry)) r ⌝ }
 {
-    let mut to = [0u64; 32];
+    let mut to = [0u64; 16];
     let mut i: usize = 0;
     while i < targets.len() {
         to[i] = two::slot_of(order, targets[i]).0;
@@ -34,8 +34,8 @@ fn slots_of(order: Order, targets: &[u64]) -> [u64; 32]
 }
 
 // After how many hops the path of a row stands on the slot x; 0: never.
-fn hops_to(grid: &[u64; 1120], row: usize, x: u64) -> usize
-    requires { ⌜ (row < 32) × (length (now grid) ≡ 1120) × (length (hops (now grid) row) < 34) ⌝ }
+fn hops_to(grid: &[u64; 560], row: usize, x: u64) -> usize
+    requires { ⌜ (row < 16) × (length (now grid) ≡ 560) × (length (hops (now grid) row) < 34) ⌝ }
     ensures { λ r. ⌜ Stands (hops (now (grid .entry)) row) x r ⌝ }
 {
     let n = grid[row * 35] as usize;
@@ -50,8 +50,8 @@ fn hops_to(grid: &[u64; 1120], row: usize, x: u64) -> usize
 }
 
 // Where the paths of the first m rows stand on the slot x; the row m: nowhere.
-fn find(grid: &[u64; 1120], m: usize, x: u64) -> Spot
-    requires { ⌜ (m ≤ 5) × (length (now grid) ≡ 1120) × ((j : ℕ) → j < m → length (hops (now grid) j) < 34) ⌝ }
+fn find(grid: &[u64; 560], m: usize, x: u64) -> Spot
+    requires { ⌜ (m ≤ 5) × (length (now grid) ≡ 560) × ((j : ℕ) → j < m → length (hops (now grid) j) < 34) ⌝ }
     ensures { λ r. ⌜ Found m (now (grid .entry)) x (r .row) (r .hops) ⌝ }
 {
     let mut y: usize = 0;
@@ -66,7 +66,7 @@ fn find(grid: &[u64; 1120], m: usize, x: u64) -> Spot
 }
 
 // The slots of path j, which stays in the block: the last is the cut of a row, any other its own row.
-fn part_of(grid: &[u64; 1120], m: usize, s: Spot, j: usize) -> Spot
+fn part_of(grid: &[u64; 560], m: usize, s: Spot, j: usize) -> Spot
     requires { ⌜ (j ≤ m) × (j ≡ s .row → ⊥) × ((s0 p0 w : ℕ) × (to : List ℕ) × Course m s0 p0 w to (s .row) (s .hops) (now grid)) ⌝ }
     ensures { λ r. ⌜ Part m (s .row) (s .hops) (now (grid .entry)) j (r .row) (r .hops) ⌝ }
 {
@@ -102,9 +102,9 @@ fn write_path(
     s0: u64,
     p0: u64,
     w: usize,
-    to: [u64; 32],
+    to: [u64; 16],
     s: Spot,
-    grid: &[u64; 1120],
+    grid: &[u64; 560],
     j: usize,
     places: &mut [u64],
     counts: &mut [u64],
@@ -134,7 +134,8 @@ pub fn plan(m: u32, source: u64, targets: &[u64], w: usize, places: &mut [u64], 
     let p0 = two::slot_of(order, source).0;
     let to = slots_of(order, targets);
     let size = grid::pow(m);
-    let grid = two_rows::plan_rows(size - 1, p0, 0, size - 1, to);
+    let mut grid = [0u64; 560];
+    two_rows::plan_rows(size - 1, p0, 0, size - 1, to, &mut grid);
     let s = find(&grid, m as usize, to[m as usize]);
     let mut j: usize = 0;
     while j <= m as usize {

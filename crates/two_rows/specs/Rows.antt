@@ -21,15 +21,15 @@ at l j = getD l j 0
 
 -- every member is a row
 abbrev pub Few : ℕ → Type 0
-Few set = (j : ℕ) → bit j set ≡ 1 → j < 32
+Few set = (j : ℕ) → bit j set ≡ 1 → j < 16
 
 -- the rows of the set hold their targets, but those still to come
 pub record Started (set : ℕ) (to : List ℕ) (todo : ℕ) (g : List ℕ) : Type 0 where
   pub ahead : (j : ℕ) → bit j todo ≡ 1 → bit j set ≡ 1
   pub is : (j : ℕ) → bit j set ≡ 1 → bit j todo ≡ 0 → hops g j ≡ at to j ∷ []
-  pub long : length g ≡ 1120
+  pub long : length g ≡ 560
 
-pub started-none : (set : ℕ) (to g : List ℕ) → length g ≡ 1120 → Started set to set g
+pub started-none : (set : ℕ) (to g : List ℕ) → length g ≡ 560 → Started set to set g
 started-none set to g e = record { ahead = λ j o. o; is = λ j o z. absurd (clash z o); long = e }
 
 pub started-more : {set : ℕ} {to : List ℕ} {todo : ℕ} {g : List ℕ} (j next : ℕ) (h : List ℕ) → Started set to todo g → bit j todo ≡ 1 → Sets 35 g h j (at to j ∷ [])
@@ -56,7 +56,7 @@ pub record Ask (free s shut set : ℕ) (to : List ℕ) : Type 0 where
 
 pub record Gives (free s shut set : ℕ) (to g : List ℕ) : Type 0 where
   pub fan : Doors (ones free) free s shut set (at to) (hops g)
-  pub long : length g ≡ 1120
+  pub long : length g ≡ 560
 
 module _ {free s shut set : ℕ} {to g : List ℕ} (a : Ask free s shut set to) (b : Started set to 0 g) where
   same : (j : ℕ) → bit j set ≡ 1 → target 35 g j ≡ at to j

@@ -1,12 +1,12 @@
-// A cube fan in the rows of a grid: 32 rows of 35 places. Inner: the two-level planner meets each `requires`.
+// A cube fan in the rows of a grid: 16 rows of 35 places. Inner: the two-level planner meets each `requires`.
 ghost use mathlib.Core.Path.{_≡_};
 ghost use Prim.Native.Nat.{ℕ};
 ghost use lib.ListN.{length};
 ghost use Rattle.two_rows.specs.Rows.{Few, Started, Ask, Gives};
 
 // Begins the row of each member of the set with its target.
-fn start_rows(set: u64, to: [u64; 32], grid: &mut [u64])
-    requires { ⌜ Few set × (length (now grid) ≡ 1120) ⌝ }
+fn start_rows(set: u64, to: [u64; 16], grid: &mut [u64])
+    requires { ⌜ Few set × (length (now grid) ≡ 560) ⌝ }
     ensures { λ _. ⌜ Started set to 0 (now (grid .exit)) ⌝ }
 {
     let mut todo = set;
@@ -18,12 +18,10 @@ fn start_rows(set: u64, to: [u64; 32], grid: &mut [u64])
 }
 
 // Paths from s to the targets of the set, in the dimensions `free`, through doors that are not shut: that of j in row j.
-pub fn plan_rows(free: u64, s: u64, shut: u64, set: u64, to: [u64; 32]) -> [u64; 1120]
-    requires { ⌜ Ask free s shut set to ⌝ }
-    ensures { λ r. ⌜ Gives free s shut set to r ⌝ }
+pub fn plan_rows(free: u64, s: u64, shut: u64, set: u64, to: [u64; 16], grid: &mut [u64])
+    requires { ⌜ Ask free s shut set to × (length (now grid) ≡ 560) ⌝ }
+    ensures { λ _. ⌜ Gives free s shut set to (now (grid .exit)) ⌝ }
 {
-    let mut grid = [0u64; 1120];
-    start_rows(set, to, &mut grid);
-    cube_plan::plan(free, s, shut, set, 35, &mut grid);
-    grid
+    start_rows(set, to, grid);
+    cube_plan::plan(free, s, shut, set, 35, grid);
 }

@@ -52,11 +52,11 @@ end-plain b g j gated z = ap (endOf b g) (ne-eqb (bit j gated) 1 (λ o. clash z 
 
 -- row j ends in the block of j or behind its gate, row 8 + j in the block of j
 pub record Ended (blocks behind : List ℕ) (gated n : ℕ) (r : List ℕ) : Type 0 where
-  pub long : length r ≡ 32
+  pub long : length r ≡ 16
   pub single : (j : ℕ) → j < n → at r j ≡ endOf (at blocks j) (at behind j) (eqb (bit j gated) 1)
   pub crowd : (j : ℕ) → j < n → at r (8 + j) ≡ at blocks j
 
-pub ended-none : (blocks behind : List ℕ) (gated : ℕ) (r : List ℕ) → length r ≡ 32 → Ended blocks behind gated 0 r
+pub ended-none : (blocks behind : List ℕ) (gated : ℕ) (r : List ℕ) → length r ≡ 16 → Ended blocks behind gated 0 r
 ended-none blocks behind gated r e = record { long = e; single = λ j h. absurd (omega arith); crowd = λ j h. absurd (omega arith) }
 
 pub ended-more : {blocks behind : List ℕ} {gated n : ℕ} {r : List ℕ} (v : ℕ) → Ended blocks behind gated n r → n < 8

@@ -24,7 +24,7 @@ pub struct Choice {
     pub rows: u64,
     pub shut: u64,
     pub gates: [u32; 8],
-    pub ends: [u64; 32],
+    pub ends: [u64; 16],
 }
 
 // The set with j, if `yes`.
@@ -189,10 +189,10 @@ fn gate_blocks(blocks: [u64; 8], gates: [u32; 8]) -> [u64; 8]
 }
 
 // Where the block path of each row ends: at its target's block or gate block, and that of 8 + j at the crowd of j.
-fn ends_of(blocks: [u64; 8], behind: [u64; 8], gated: u64) -> [u64; 32]
+fn ends_of(blocks: [u64; 8], behind: [u64; 8], gated: u64) -> [u64; 16]
     ensures { λ r. ⌜ Ended blocks behind gated 8 r ⌝ }
 {
-    let mut r = [0u64; 32];
+    let mut r = [0u64; 16];
     let mut j: usize = 0;
     while j < 8 {
         r[j] = end_of(blocks[j], behind[j], bits::bit(gated, j as u32));

@@ -36,7 +36,7 @@ at l j = getD l j 0
 
 -- the block paths of the crowds
 pub record Crowds (reps : ℕ) (g : List ℕ) : Type 0 where
-  pub long : length g ≡ 1120
+  pub long : length g ≡ 560
   pub few : (r : ℕ) → bit r reps ≡ 1 → r < 8
   pub short : (r : ℕ) → bit r reps ≡ 1 → length (hops g (8 + r)) < 34
   pub some : (r : ℕ) → bit r reps ≡ 1 → (x : ℕ) × (l : List ℕ) × (hops g (8 + r) ≡ x ∷ l)
@@ -84,7 +84,7 @@ first-in : (g : List ℕ) (row v : ℕ) → FirstIs g row v → (x : ℕ) (l : L
 first-in g row v f x l e = f ∙ ap (λ (y : List ℕ). getD y 0 0) e
 
 -- the row of a crowd can be read
-pub crowd-read : {reps : ℕ} {g : List ℕ} (r : ℕ) → Crowds reps g → bit r reps ≡ 1 → (8 + r < 32) × (length g ≡ 1120) × (length (hops g (8 + r)) < 34) × (0 < length (hops g (8 + r)))
+pub crowd-read : {reps : ℕ} {g : List ℕ} (r : ℕ) → Crowds reps g → bit r reps ≡ 1 → (8 + r < 16) × (length g ≡ 560) × (length (hops g (8 + r)) < 34) × (0 < length (hops g (8 + r)))
 crowd-read r a o = let x = a .some r o in (omega (arith, a .few r o), a .long, a .short r o, omega (arith, ap length (x .2)))
 
 pub crowding-more : {reps front : ℕ} {g : List ℕ} {todo : ℕ} (r v next : ℕ) → Crowding reps front g todo → bit r todo ≡ 1 → FirstIs g (8 + r) v → v ≢ front → next ≡ flip todo r
@@ -118,8 +118,8 @@ fewer todo j next o e = omega (arith, ones-clear j todo o, ap ones e)
 
 -- the block path of the row, from s0 by the door p0 to `end`
 pub record LastAsk (m s0 p0 end : ℕ) (g : List ℕ) (row : ℕ) : Type 0 where
-  pub long : length g ≡ 1120
-  pub row-in : row < 32
+  pub long : length g ≡ 560
+  pub row-in : row < 16
   pub short : length (hops g row) < 34
   pub walk : Walk (2 ^ (2 ^ m) - 1) s0 end (hops g row)
   pub rest : List ℕ

@@ -27,7 +27,7 @@ pub struct Taken {
 }
 
 // The crowd whose block path begins with the block `front`, or 8.
-fn crowd_by(reps: u64, front: u64, grid: &[u64; 1120]) -> u32
+fn crowd_by(reps: u64, front: u64, grid: &[u64; 560]) -> u32
     requires { ⌜ Crowds reps (now grid) ⌝ }
     ensures { λ r. ⌜ CrowdBy reps front (now (grid .entry)) r ⌝ }
 {
@@ -97,7 +97,7 @@ fn step(here: u32, to: u32) -> u32
 }
 
 // The slot by which the last block of a row is entered.
-fn enter_by(m: u32, s0: u64, p0: u32, end: u64, grid: &[u64; 1120], row: usize) -> u32
+fn enter_by(m: u32, s0: u64, p0: u32, end: u64, grid: &[u64; 560], row: usize) -> u32
     requires { ⌜ LastAsk m s0 p0 end (now grid) row ⌝ }
     ensures { λ r. ⌜ Enters m s0 end (now (grid .entry)) row r ⌝ }
 {
@@ -161,7 +161,7 @@ pub fn take_over(
     gates: [u32; 8],
     gated: u64,
     reps: u64,
-    grid: &[u64; 1120],
+    grid: &[u64; 560],
 ) -> Taken
     requires { ⌜ OverAsk m s0 p0 k blocks slots gates gated reps (now grid) ⌝ }
     ensures { λ r. ⌜ Over m s0 p0 k blocks slots gates gated reps (now (grid .entry)) (r .who) (r .row) (r .enter) (r .len) (r .tail) ⌝ }

@@ -21,7 +21,8 @@ use Rattle.two_fan.specs.Relays.{Relay, inside, length-inside}
 use Rattle.two_fan.specs.Through.{Stroll, Crosses, crosses-short}
 use Rattle.two_fan.specs.Numbers.{numbers, numbers-append, length-numbers}
 use Rattle.two_fan.specs.Loops.{crosses-none, crosses-more, walk-hop, door-of}
-use Rattle.two_write.specs.Walked.{relays, relays-numbers, Walked, sets-append}
+use Rattle.scan.specs.Runs.{sets-append}
+use Rattle.two_write.specs.Walked.{relays, relays-numbers, Walked}
 use Rattle.two_write.specs.Row.{hops}
 
 -- ---- numbers of relays fit
@@ -78,8 +79,8 @@ pub record Ways (m s0 : ℕ) (g : List ℕ) (row n leave last at size : ℕ) : T
   pub home : s0 < 2 ^ (2 ^ m)
   pub goes : 0 < n → Goes m s0 g row
   pub some : n ≤ length (hops g row)
-  pub row-in : row < 32
-  pub long : length g ≡ 1120
+  pub row-in : row < 16
+  pub long : length g ≡ 560
   pub first : 0 < n → getD (hops g row) 0 0 ≡ flip s0 leave
   pub leave-in : leave < 2 ^ m
   pub last-in : last < 2 ^ m
@@ -119,7 +120,7 @@ module _ {m s0 : ℕ} {g : List ℕ} {row n leave last at size : ℕ} (w : Ways 
       walk-below (2 ^ m) (2 ^ (2 ^ m) - 1) s0 (r .end) (hops g row) (full-below (2 ^ m)) (w .home) (r .walk) (getD (hops g row) i 0) (in-at (hops g row) 0 i (omega (arith, w .some)))
 
   -- what reading a relay of the row asks
-  pub hop-ask : (i : ℕ) → i < n → (row < 32) × (length g ≡ 1120) × (length (hops g row) < 34) × (i < length (hops g row))
+  pub hop-ask : (i : ℕ) → i < n → (row < 16) × (length g ≡ 560) × (length (hops g row) < 34) × (i < length (hops g row))
   hop-ask i h = (w .row-in, w .long, w .goes (omega arith) .few, omega (arith, w .some))
 
   -- the next block is behind a door of block i

@@ -1,4 +1,4 @@
--- The rows of a grid of the two-level planner: 32 rows of 35 places. Assumes nothing.
+-- The rows of a grid of the two-level planner: 16 rows of 35 places. Assumes nothing.
 use Prim.Native.Nat.{ℕ, _+_, _-_, _*_, _<_, min}
 use mathlib.Core.Path.{_≡_, sym, ap, _∙_}
 use mathlib.Core.List.{List}

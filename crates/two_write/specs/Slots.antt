@@ -8,7 +8,8 @@ use lib.ListN.{length, getD, take, set, length-set, length-take}
 use lib.Seq.{sets, take-suc, take-all}
 use Rattle.two_fan.specs.Relays.{inside}
 use Rattle.two_fan.specs.Numbers.{numbers}
-use Rattle.two_write.specs.Walked.{relays, relays-numbers, relays-append, relays-length, sets-append}
+use Rattle.scan.specs.Runs.{sets-append}
+use Rattle.two_write.specs.Walked.{relays, relays-numbers, relays-append, relays-length}
 
 -- the first n slots of the list are slots of a block
 abbrev pub Below : (m n : ℕ) (l : List ℕ) → Type 0

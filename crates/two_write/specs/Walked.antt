@@ -1,15 +1,15 @@
 -- A walk in a block, written as relays after its first. Assumes nothing.
-use Prim.Native.Nat.{ℕ, zero, suc, _+_, _-_, _*_, _^_, _≤_, _<_}
+use Prim.Native.Nat.{ℕ, suc, _+_, _-_, _*_, _^_, _≤_, _<_}
 use mathlib.Core.Path.{_≡_, refl, sym, ap, _∙_, subst}
-use mathlib.Core.Logic.{_⊎_, inl, inr, ⊎-elim, _≢_}
+use mathlib.Core.Logic.{_⊎_, ⊎-elim, _≢_}
 use mathlib.Core.List.{List, [], _∷_, _++_}
-use native.Mathlib.Nat.{add-zero, add-suc, suc-add}
+use native.Mathlib.Nat.{add-zero}
 use native.Mathlib.Omega.{arith}
 use lib.ListN.{length, set, length-set, length-append}
 use lib.Seq.{sets}
 use lib.Bits.{bitXor}
 use lib.Count.{ones, ones-ones}
-use lib.Pow.{pow-mono}
+use Rattle.scan.specs.Runs.{sets-append}
 use Rattle.bits.specs.Bit.{bit, flip, Lowest}
 use Rattle.bits.specs.Laws.{lt-or-le, ones-none, xor-zero-eq, flip-lt}
 use Rattle.doors.specs.Plain.{bit-high, bit-full}
@@ -17,7 +17,7 @@ use Rattle.doors.specs.Single.{rank, rank-le, rank-less, differs-bit}
 use Rattle.two_fan.specs.Relays.{inside}
 use Rattle.two_fan.specs.Numbers.{numbers}
 use Rattle.two_fan.specs.Through.{Stroll}
-use Rattle.two_fan.specs.Loops.{Strolling, strolling-none, strolling-more, strolling-short, strolling-done}
+use Rattle.two_fan.specs.Loops.{Strolling, strolling-none, strolling-more, strolling-done}
 
 -- the relays of the slots l of the block whose first relay is `base`
 abbrev pub relays : ℕ → List ℕ → List ℕ
@@ -71,10 +71,6 @@ pub record Going (m base p q at : ℕ) (was now : List ℕ) (u i : ℕ) : Type 0
 
 pub going-none : (m base p q at : ℕ) (was : List ℕ) → p < 2 ^ m → Going m base p q at was was p at
 going-none m base p q at was h = record { way = []; going = strolling-none m p q; below = h; wrote = refl; next = sym (add-zero at); long = refl }
-
-pub sets-append : (l : List ℕ) (i : ℕ) (xs ys : List ℕ) → sets l i (xs ++ ys) ≡ sets (sets l i xs) (i + length xs) ys
-sets-append l i [] ys = rw add-zero
-sets-append l i (x ∷ xs) ys = rw (add-suc, ← suc-add) (sets-append (set l i x) (suc i) xs ys)
 
 pub dim-below : (m u q d : ℕ) → u < 2 ^ m → q < 2 ^ m → bit d u ≢ bit d q → d < m
 dim-below m u q d hu hq ne = ⊎-elim (λ h. h) (λ g. absurd (ne (bit-high m d u hu g ∙ sym (bit-high m d q hq g)))) (lt-or-le d m)

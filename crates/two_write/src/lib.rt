@@ -49,8 +49,8 @@ pub fn write_block(m: u32, b: u64, p: u64, q: u64, at: usize, out: &mut [u64]) -
 }
 
 // The relay after i hops of the path of a row, from 0.
-pub fn hop(grid: &[u64; 1120], row: usize, i: usize) -> u64
-    requires { ⌜ (row < 32) × (length (now grid) ≡ 1120) × (length (hops (now grid) row) < 34) × (i < length (hops (now grid) row)) ⌝ }
+pub fn hop(grid: &[u64; 560], row: usize, i: usize) -> u64
+    requires { ⌜ (row < 16) × (length (now grid) ≡ 560) × (length (hops (now grid) row) < 34) × (i < length (hops (now grid) row)) ⌝ }
     ensures { λ r. ⌜ r ≡ getD (hops (now (grid .entry)) row) i 0 ⌝ }
 {
     grid[row * 35 + (35 - grid[row * 35] as usize) + i]
@@ -60,7 +60,7 @@ pub fn hop(grid: &[u64; 1120], row: usize, i: usize) -> u64
 fn exit(
     m: u32,
     s0: u64,
-    grid: &[u64; 1120],
+    grid: &[u64; 560],
     row: usize,
     n: usize,
     leave: u64,
@@ -80,7 +80,7 @@ fn exit(
 pub fn write_blocks(
     m: u32,
     s0: u64,
-    grid: &[u64; 1120],
+    grid: &[u64; 560],
     row: usize,
     n: usize,
     leave: u64,
@@ -121,13 +121,13 @@ pub fn write_slots(m: u32, b: u64, slots: [u64; 8], n: usize, at: usize, out: &m
 pub fn write_part(
     m: u32,
     b: u64,
-    grid: &[u64; 1120],
+    grid: &[u64; 560],
     row: usize,
     n: usize,
     at: usize,
     out: &mut [u64],
 ) -> usize
-    requires { ⌜ (m ≤ 5) × (b < 2 ^ (2 ^ m)) × (row < 32) × (length (now grid) ≡ 1120) × (length (hops (now grid) row) < 34) × (n ≤ length (hops (now grid) row)) × Below m n (hops (now grid) row) × (at + n ≤ length (now out)) ⌝ }
+    requires { ⌜ (m ≤ 5) × (b < 2 ^ (2 ^ m)) × (row < 16) × (length (now grid) ≡ 560) × (length (hops (now grid) row) < 34) × (n ≤ length (hops (now grid) row)) × Below m n (hops (now grid) row) × (at + n ≤ length (now out)) ⌝ }
     ensures { λ r. ⌜ Slotted m b (take n (hops (now (grid .entry)) row)) at (now (out .entry)) (now (out .exit)) r ⌝ }
 {
     let first = base(m, b);
@@ -143,12 +143,12 @@ pub fn write_part(
 pub fn write_head(
     m: u32,
     b: u64,
-    grid: &[u64; 1120],
+    grid: &[u64; 560],
     row: usize,
     at: usize,
     out: &mut [u64],
 ) -> usize
-    requires { ⌜ (m ≤ 5) × (b < 2 ^ (2 ^ m)) × (row < 32) × (length (now grid) ≡ 1120) × (length (hops (now grid) row) < 34) × Below m (length (hops (now grid) row)) (hops (now grid) row) × (at + length (hops (now grid) row) ≤ length (now out)) ⌝ }
+    requires { ⌜ (m ≤ 5) × (b < 2 ^ (2 ^ m)) × (row < 16) × (length (now grid) ≡ 560) × (length (hops (now grid) row) < 34) × Below m (length (hops (now grid) row)) (hops (now grid) row) × (at + length (hops (now grid) row) ≤ length (now out)) ⌝ }
     ensures { λ r. ⌜ Slotted m b (hops (now (grid .entry)) row) at (now (out .entry)) (now (out .exit)) r ⌝ }
 {
     write_part(m, b, grid, row, grid[row * 35] as usize, at, out)

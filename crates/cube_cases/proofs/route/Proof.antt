@@ -20,11 +20,11 @@ slice-aggregate-put-pair c = search needs
 put-pair-requires : tie.Need-put-pair-requires
 put-pair-requires c κs = search needs
 
-slice-aggregate-write-all : tie.Need-slice-aggregate-write-all
-slice-aggregate-write-all c = search needs
+slice-aggregate-text : tie.Need-slice-aggregate-text
+slice-aggregate-text c = search needs
 
-write-all-requires : tie.Need-write-all-requires
-write-all-requires c κs = search needs
+text-requires : tie.Need-text-requires
+text-requires c κs = search needs
 
 put-requires : tie.Need-put-requires
 put-requires c κs = search needs
@@ -32,17 +32,17 @@ put-requires c κs = search needs
 put-answer-requires : tie.Need-put-answer-requires
 put-answer-requires c κs = search needs
 
-slice-aggregate-write-all-2 : tie.Need-slice-aggregate-write-all-2
-slice-aggregate-write-all-2 c = search needs
+slice-aggregate-text-2 : tie.Need-slice-aggregate-text-2
+slice-aggregate-text-2 c = search needs
 
-write-all-requires-2 : tie.Need-write-all-requires-2
-write-all-requires-2 c κs = search needs
+text-requires-2 : tie.Need-text-requires-2
+text-requires-2 c κs = search needs
 
-add-put-first : tie.Need-add-put-first
-add-put-first c = search needs
+add-put-places : tie.Need-add-put-places
+add-put-places c = search needs
 
-put-first-requires : tie.Need-put-first-requires
-put-first-requires c κs = search needs
+put-places-requires : tie.Need-put-places-requires
+put-places-requires c κs = search needs
 
 end-line-requires : tie.Need-end-line-requires
 end-line-requires c κs = search needs
@@ -59,13 +59,13 @@ route-spec =
     route-requires
     slice-aggregate-put-pair
     put-pair-requires
-    slice-aggregate-write-all
-    write-all-requires
+    slice-aggregate-text
+    text-requires
     put-requires
     put-answer-requires
-    slice-aggregate-write-all-2
-    write-all-requires-2
-    add-put-first
-    put-first-requires
+    slice-aggregate-text-2
+    text-requires-2
+    add-put-places
+    put-places-requires
     end-line-requires
     returns)

@@ -5,39 +5,30 @@ use borrow.Author.Needs.{needs}
 use Rattle.cube_fans.proofs.plan.Statement.{statement}
 use Rattle.cube_fans.proofs.plan.Tie as tie
 
--- src/main.rt:85:9
 array-borrow-prefix-places : tie.Need-array-borrow-prefix-places
 array-borrow-prefix-places c = search needs
 
--- src/main.rt:85:9
 slice-aggregate-plan : tie.Need-slice-aggregate-plan
 slice-aggregate-plan c = simp length-take (omega arith)
 
--- src/main.rt:86:9
 array-borrow-prefix-counts : tie.Need-array-borrow-prefix-counts
 array-borrow-prefix-counts c = search needs
 
--- src/main.rt:86:9
 slice-aggregate-plan-2 : tie.Need-slice-aggregate-plan-2
 slice-aggregate-plan-2 c = simp length-take (omega arith)
 
--- src/main.rt:81:9
 plan-requires : tie.Need-plan-requires
 plan-requires c κs = search needs
 
--- src/main.rt:88:17
 slice-aggregate-put-request : tie.Need-slice-aggregate-put-request
 slice-aggregate-put-request c = search needs
 
--- src/main.rt:88:5
 put-request-requires : tie.Need-put-request-requires
 put-request-requires c κs = search needs
 
--- src/main.rt:89:5
 put-outcome-requires : tie.Need-put-outcome-requires
 put-outcome-requires c κs = search needs
 
--- src/main.rt:76:1
 returns : tie.Need-returns
 returns c = search needs
 

@@ -5,39 +5,30 @@ use borrow.Author.Needs.{needs}
 use Rattle.cube_fans.proofs.through.Statement.{statement}
 use Rattle.cube_fans.proofs.through.Tie as tie
 
--- src/main.rt:103:9
 array-borrow-prefix-places : tie.Need-array-borrow-prefix-places
 array-borrow-prefix-places c = search needs
 
--- src/main.rt:103:9
 slice-aggregate-plan-through : tie.Need-slice-aggregate-plan-through
 slice-aggregate-plan-through c = simp length-take (omega arith)
 
--- src/main.rt:104:9
 array-borrow-prefix-counts : tie.Need-array-borrow-prefix-counts
 array-borrow-prefix-counts c = search needs
 
--- src/main.rt:104:9
 slice-aggregate-plan-through-2 : tie.Need-slice-aggregate-plan-through-2
 slice-aggregate-plan-through-2 c = simp length-take (omega arith)
 
--- src/main.rt:98:9
 plan-through-requires : tie.Need-plan-through-requires
 plan-through-requires c κs = search needs
 
--- src/main.rt:106:17
 slice-aggregate-put-request : tie.Need-slice-aggregate-put-request
 slice-aggregate-put-request c = search needs
 
--- src/main.rt:106:5
 put-request-requires : tie.Need-put-request-requires
 put-request-requires c κs = search needs
 
--- src/main.rt:107:5
 put-outcome-requires : tie.Need-put-outcome-requires
 put-outcome-requires c κs = search needs
 
--- src/main.rt:93:1
 returns : tie.Need-returns
 returns c = search needs
 

@@ -12,14 +12,14 @@ use Rattle.two_draw.proofs.leaves_of.Statement.{statement}
 use Rattle.two_draw.proofs.leaves_of.Tie as tie
 
 abbrev Inv-loop : tie.InvT-loop
-Inv-loop s0 p0 slots c o k grid r₀ j₀ r j = (j ≤ k) × Filled 32 j (Leaves s0 p0 slots c o grid) r
+Inv-loop s0 p0 slots c o k grid r₀ j₀ r j = (j ≤ k) × Filled 16 j (Leaves s0 p0 slots c o grid) r
 
 abbrev μ-loop : tie.MeasureT-loop
 μ-loop s0 p0 slots c o k grid r₀ j₀ r j = k - j
 
 loop-holds : tie.Need-loop-holds Inv-loop μ-loop
 unfolding allZero
-loop-holds c = (omega arith, filled-none 32 _ _ refl refl)
+loop-holds c = (omega arith, filled-none 16 _ _ refl refl)
 
 leave-of-requires : tie.Need-leave-of-requires Inv-loop μ-loop
 leave-of-requires c κs = one-inside (c .before .before .pre) (omega arith)

@@ -32,20 +32,23 @@ sub-plan-rows c = omega (arith, c .pow .ensures, pow-pos (c .before .before .bef
 sub-plan-rows-2 : tie.Need-sub-plan-rows-2 Inv-loop μ-loop
 sub-plan-rows-2 c = omega (arith, c .pow .ensures, pow-pos (c .before .before .before .before .before .before .before .args .m))
 
+slice-aggregate-plan-rows : tie.Need-slice-aggregate-plan-rows Inv-loop μ-loop
+slice-aggregate-plan-rows c = search needs
+
 plan-rows-requires : tie.Need-plan-rows-requires Inv-loop μ-loop
-plan-rows-requires c κs = trip-asked (c .before .before .before .before .before .before .before .pre) (c .before .slots-of .ensures) _ _ (c .before .before .before .block-of .ensures) (c .before .before .slot-of .ensures) _ (c .pow .ensures)
+plan-rows-requires c κs = (trip-asked (c .before .before .before .before .before .before .before .before .pre) (c .before .before .slots-of .ensures) _ _ (c .before .before .before .before .block-of .ensures) (c .before .before .before .slot-of .ensures) _ (c .before .pow .ensures), search needs)
 
 mul-find : tie.Need-mul-find Inv-loop μ-loop
-mul-find c = omega (arith, c .before .before .before .before .before .before .before .before .before .pre .high)
+mul-find c = omega (arith, c .before .before .before .before .before .before .before .before .before .before .before .pre .high)
 
 array-read-find : tie.Need-array-read-find Inv-loop μ-loop
-array-read-find c = omega (arith, c .before .before .before .before .before .before .before .before .before .pre .high)
+array-read-find c = omega (arith, c .before .before .before .before .before .before .before .before .before .before .before .pre .high)
 
 find-requires : tie.Need-find-requires Inv-loop μ-loop
-find-requires c κs = trip-finds (c .before .before .before .before .before .before .before .before .before .pre) (c .before .before .before .slots-of .ensures) _ _ (c .before .before .before .before .before .block-of .ensures) (c .before .before .before .before .slot-of .ensures) _ _ (c .before .before .pow .ensures) (c .before .plan-rows .ensures)
+find-requires c κs = trip-finds (c .before .before .before .before .before .before .before .before .before .before .before .pre) (c .before .before .before .before .before .slots-of .ensures) _ _ (c .before .before .before .before .before .before .before .block-of .ensures) (c .before .before .before .before .before .before .slot-of .ensures) _ _ (c .before .before .before .before .pow .ensures) (c .before .before .plan-rows .ensures)
 
 loop-holds : tie.Need-loop-holds Inv-loop μ-loop
-loop-holds c = going-none _ (c .before .before .before .before .before .before .before .before .before .before .pre) (c .before .before .before .before .slots-of .ensures) (c .before .before .before .before .before .before .block-of .ensures) (c .before .before .before .before .before .slot-of .ensures) (c .before .before .before .pow .ensures) (c .before .before .plan-rows .ensures) (c .find .ensures)
+loop-holds c = going-none _ (c .before .before .before .before .before .before .before .before .before .before .before .before .pre) (c .before .before .before .before .before .before .slots-of .ensures) (c .before .before .before .before .before .before .before .before .block-of .ensures) (c .before .before .before .before .before .before .before .slot-of .ensures) (c .before .before .before .before .before .pow .ensures) (c .before .before .before .plan-rows .ensures) (c .find .ensures)
 
 write-path-requires : tie.Need-write-path-requires Inv-loop μ-loop
 write-path-requires c κs = going-asks (c .before .before .before .before .loop .inv) (c .before .before .before .loop-test .taken)
@@ -80,6 +83,7 @@ plan-spec =
     pow-requires
     sub-plan-rows
     sub-plan-rows-2
+    slice-aggregate-plan-rows
     plan-rows-requires
     mul-find
     array-read-find

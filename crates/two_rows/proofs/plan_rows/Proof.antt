@@ -4,27 +4,17 @@ use borrow.Author.Needs.{needs}
 use Rattle.two_rows.proofs.plan_rows.Statement.{statement}
 use Rattle.two_rows.proofs.plan_rows.Tie as tie
 
-slice-aggregate-start-rows : tie.Need-slice-aggregate-start-rows
-slice-aggregate-start-rows c = search needs
-
 start-rows-requires : tie.Need-start-rows-requires
 start-rows-requires c κs = search needs
 
-slice-aggregate-plan : tie.Need-slice-aggregate-plan
-slice-aggregate-plan c = search needs
-
 plan-requires : tie.Need-plan-requires
-plan-requires c κs = asked (c .before .before .before .before .pre) (c .before .before .start-rows .ensures)
+plan-requires c κs = asked (c .before .before .before .before .before .before .pre .0) (c .before .before .before .start-rows .ensures)
+
+same-length : tie.Need-same-length
+same-length c = search needs
 
 returns : tie.Need-returns
-returns c = gives (c .before .before .before .before .before .before .pre) (c .before .before .before .before .start-rows .ensures) (c .before .plan .ensures)
+returns c = gives (c .before .before .before .before .before .before .before .before .before .pre .0) (c .before .before .before .before .before .before .start-rows .ensures) (c .before .before .plan .ensures)
 
 pub plan-rows-spec : {M : Type 1} → statement M
-plan-rows-spec =
-    tie.close
-    (tie.spec
-    slice-aggregate-start-rows
-    start-rows-requires
-    slice-aggregate-plan
-    plan-requires
-    returns)
+plan-rows-spec = tie.close (tie.spec start-rows-requires plan-requires same-length returns)

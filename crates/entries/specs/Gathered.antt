@@ -1,0 +1,36 @@
+-- The columns of a fan's paths, gathered for so many entries (`Gathers`), and how many there are to write.
+use Prim.Native.Nat.{ℕ, _≤_, _<_}
+use mathlib.Core.Path.{_≡_}
+use mathlib.Core.List.{List}
+use lib.Dec.{eqb, ltb}
+use lib.ListN.{length, getD}
+use Rattle.scan.specs.Scan.{pick}
+use Rattle.paths.specs.Mesh.{width}
+use Rattle.mesh.specs.Kinds.{Kind}
+use Rattle.survivors.specs.Tally.{tallyTold}
+use Rattle.survivors.specs.declared.Tally.{Tally}
+use Rattle.survivors.specs.declared.Tally.the-variants as tally
+use Rattle.entries.specs.Promise.{entryOf, pathEntry, settle, listedTold}
+use Rattle.entries.specs.declared.Entry.{Entry}
+use Rattle.entries.specs.declared.gathered.Gathered.{Gathered}
+
+-- at most 32
+unfoldable pub capped : ℕ → ℕ
+capped room = pick (ltb room 32) room 32
+
+-- the entries that a tally comes with, of k paths
+abbrev pub takenOf : Tally → ℕ → ℕ
+takenOf (tally.Whole c) k = k
+takenOf (tally.Found f) k = 0
+takenOf (tally.Refused why) k = 0
+
+-- entry i of the columns: a path is whole where its mark is 1
+abbrev pub entryAt : Gathered → ℕ → Entry
+entryAt g i = entryOf (getD (g .ends) i 0) (getD (g .hops) i 0) (eqb (getD (g .wholes) i 0) 1)
+
+pub record Gathers (K : Kind) (n s : ℕ) (targets places counts stopped : List ℕ) (room : ℕ) (g : Gathered) : Type 0 where
+  pub told : tallyTold (g .tally) ≡ listedTold K n s targets places counts stopped room
+  pub taken : g .k ≡ settle K n s targets places counts stopped room (length targets) 0
+  pub each : (i : ℕ) → i < g .k → entryAt g i ≡ pathEntry (width (K .mesh n)) targets places counts stopped i
+  pub small : g .k ≤ 32
+  pub fits : g .k ≤ room

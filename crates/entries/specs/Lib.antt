@@ -1,0 +1,6 @@
+-- What survivors over a list of entries promises, and why it keeps it.
+pub mod Promise
+pub mod Gathered
+pub mod Filling
+pub mod Laws
+pub mod Unique

@@ -1,0 +1,103 @@
+// The three columns of the plain function, gathered for as many entries as there is room for.
+ghost use mathlib.Core.Path.{_≡_};
+ghost use Prim.Native.Nat.{_<_};
+ghost use Rattle.mesh.specs.Kinds.{kindOf};
+ghost use Rattle.entries.specs.Gathered.{capped, takenOf, entryAt, Gathers};
+use crate::Entry;
+use mesh::Mesh;
+use survivors::Tally;
+
+// What comes back, how many entries there are to write (none of a refusal or a finding), and their columns.
+pub struct Gathered {
+    pub tally: Tally,
+    pub k: usize,
+    pub ends: [u64; 32],
+    pub hops: [u64; 32],
+    pub wholes: [u64; 32],
+}
+
+impl Gathered {
+    // What comes back.
+    pub fn told(self) -> Tally
+        ensures { λ r. ⌜ r ≡ self .tally ⌝ }
+    {
+        self.tally
+    }
+
+    // How many entries there are to write.
+    pub fn count(self) -> usize
+        ensures { λ r. ⌜ r ≡ self .k ⌝ }
+    {
+        self.k
+    }
+
+    // Entry i of the columns.
+    pub fn entry(self, i: usize) -> Entry
+        requires { ⌜ i < 32 ⌝ }
+        ensures { λ r. ⌜ r ≡ entryAt self i ⌝ }
+    {
+        Entry {
+            target: self.ends[i],
+            hops: self.hops[i],
+            whole: self.wholes[i] == 1,
+        }
+    }
+}
+
+// At most 32: no relay has more links.
+fn most(room: usize) -> usize
+    ensures { λ r. ⌜ r ≡ capped room ⌝ }
+{
+    if room < 32 {
+        return room;
+    }
+    32
+}
+
+// How many entries a tally comes with, of k paths.
+fn taken(t: Tally, k: usize) -> usize
+    ensures { λ r. ⌜ r ≡ takenOf t k ⌝ }
+{
+    match t {
+        Tally::Whole(_) => k,
+        Tally::Found(_) => 0,
+        Tally::Refused(_) => 0,
+    }
+}
+
+// The columns of a fan's paths, and what comes back where there is room for so many entries.
+pub fn gather<'b>(
+    mesh: Mesh,
+    source: u64,
+    targets: &'b [u64],
+    places: &'b [u64],
+    counts: &'b [u64],
+    stopped: &'b [u64],
+    room: usize,
+) -> Gathered
+    ensures { λ r. ⌜ Gathers (kindOf (mesh .kind)) (mesh .size) source (now (targets .entry)) (now (places .entry)) (now (counts .entry)) (now (stopped .entry)) room r ⌝ }
+{
+    let n = most(room);
+    let mut ends = [0u64; 32];
+    let mut hops = [0u64; 32];
+    let mut wholes = [0u64; 32];
+    let tally = survivors::survivors(
+        mesh,
+        source,
+        targets,
+        places,
+        counts,
+        stopped,
+        &mut ends[..n],
+        &mut hops[..n],
+        &mut wholes[..n],
+    );
+    let k = taken(tally, targets.len());
+    Gathered {
+        tally: tally,
+        k: k,
+        ends: ends,
+        hops: hops,
+        wholes: wholes,
+    }
+}

@@ -1,0 +1,40 @@
+// Survivors over one lent list of entries: a thin function over the plain one, which fills three columns of numbers.
+mod gathered;
+
+ghost use Rattle.mesh.specs.Kinds.{kindOf};
+ghost use Rattle.entries.specs.Promise.{Listed};
+use mesh::Mesh;
+use survivors::Tally;
+
+// One path of a fan: its target, its hops, and whether it is whole.
+#[repr(C)]
+pub struct Entry {
+    pub target: u64,
+    pub hops: u64,
+    pub whole: bool,
+}
+
+// Of a fan from the source to the targets, an entry for each path, in the targets' order, at the front of `out`; the entries after those stay.
+// Answers how many are whole. In the cube of 2 dimensions, of the paths 0, 2, 3 and 0, 1, with relay 2 stopped, the entries are (3, 2, no) and
+// (1, 1, yes), and the answer is 1. Refuses with 1 to 8, or gives the judge's first finding, and then leaves `out` as it was.
+// Proved by hand, so all but the stores stands in `gathered`; one lifetime for all that is read keeps that proof short.
+pub fn survivors<'a, 'b>(
+    mesh: Mesh,
+    source: u64,
+    targets: &'b [u64],
+    places: &'b [u64],
+    counts: &'b [u64],
+    stopped: &'b [u64],
+    out: &'a mut [Entry],
+) -> Tally
+    ensures { λ r. ⌜ Listed (kindOf (mesh .kind)) (mesh .size) source (now (targets .entry)) (now (places .entry)) (now (counts .entry)) (now (stopped .entry)) (now (out .entry)) r (now (out .exit)) ⌝ }
+{
+    let g = gathered::gather(mesh, source, targets, places, counts, stopped, out.len());
+    let k = g.count();
+    let mut i: usize = 0;
+    while i < k {
+        out[i] = g.entry(i);
+        i += 1;
+    }
+    g.told()
+}

@@ -1,0 +1,2 @@
+-- What the program owes: parts of its buffers.
+pub mod Buffers

@@ -1,0 +1,6 @@
+-- A request line answered by the text of a fan, or of a refusal.
+pub mod Replies
+pub mod Sizes
+pub mod Laws
+pub mod Lines
+pub mod Unique
