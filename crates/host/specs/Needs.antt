@@ -1,13 +1,12 @@
 -- What the functions behind the planner's call ask.
-use Prim.Native.Nat.{ℕ, _/_, _%_, _≤_}
+use Prim.Native.Nat.{ℕ, _%_, _≤_}
 use mathlib.Core.Path.{_≡_}
 use mathlib.Core.Bool.{false}
 use mathlib.Core.List.{List}
-use mathlib.Core.Option.{Option, none}
+use mathlib.Core.Option.{none}
 use lib.Dec.{ltb}
 use lib.ListN.{length}
 use Rattle.scan.specs.Scan.{pick}
-use Rattle.answers.specs.declared.Refusal.{Refusal}
 use Rattle.mesh.specs.Kinds.{kindOf, meshOf}
 use Rattle.mesh.specs.Says.{requestAgainst}
 use Rattle.host.specs.Says.{most}

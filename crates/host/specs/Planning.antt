@@ -1,29 +1,29 @@
 -- Why the planner's call keeps its promise: the place of a refusal is small (`request-place`); a fan planned in room enough is written whole (`lay-sheeted`, `lay-answered`);
 -- what stands against a list of targets (`list-refused`, `list-short`, `list-done`); and of more than 33 targets the first 33 tell all (`cut-planned`).
 -- Assumes nothing.
-use Prim.Native.Nat.{ℕ, zero, suc, _+_, _-_, _*_, _/_, _%_, _≤_, _<_}
-use mathlib.Core.Path.{_≡_, refl, sym, ap, ap₂, _∙_, subst}
+use Prim.Native.Nat.{ℕ, _+_, _-_, _*_, _/_, _%_, _≤_, _<_}
+use mathlib.Core.Path.{_≡_, refl, sym, ap, _∙_, subst}
 use mathlib.Core.Bool.{Bool, true, false, not}
-use mathlib.Core.Logic.{_⊎_, inl, inr, ⊎-elim, _≢_}
+use mathlib.Core.Logic.{_⊎_, inl, inr, _≢_}
 use mathlib.Core.List.{List, _++_}
 use mathlib.Core.Option.{Option, none, some}
-use native.Mathlib.Nat.{mul-le-mul, mul-le-mul-right, le-trans, zero-add}
+use native.Mathlib.Nat.{mul-le-mul, mul-le-mul-right, le-trans}
 use native.Mathlib.Omega.{arith}
 use lib.Dec.{eqb, leb, ltb}
-use lib.ListN.{length, getD, take, drop}
+use lib.ListN.{length, take, drop}
 use lib.Seq.{sets, take-at}
 use borrow.Author.Tests.{not-false, ltb-true, ltb-false, lt-ltb, le-ltb, eq-eqb, ne-eqb}
 use Rattle.scan.specs.Scan.{Spot, nowhere, at, pick}
 use Rattle.scan.specs.Laws.{seek-first, true-or}
-use Rattle.answers.specs.Order.{first, refuse, refuse-at, firstAt, isOut, isSame, isAgain, requestFaults}
+use Rattle.answers.specs.Order.{first, refuse, refuse-at, firstAt, isOut, isSame, isAgain}
 use Rattle.answers.specs.Told.{place, against}
 use Rattle.answers.specs.declared.Refusal.{Refusal}
 use Rattle.answers.specs.declared.Refusal.the-variants.{Unreadable, UnknownSize, SourceOut, NoTarget, TooMany, TargetOut, TargetIsSource, TargetAgain, NoRoom}
 use Rattle.answers.specs.declared.Checked.{Checked}
 use Rattle.answers.specs.declared.Checked.the-variants as checked
-use Rattle.paths.specs.Mesh.{Mesh, width}
+use Rattle.paths.specs.Mesh.{width}
 use Rattle.paths.specs.Fan.{Fan}
-use Rattle.mesh.specs.Kinds.{Kind, kindOf, meshOf, known}
+use Rattle.mesh.specs.Kinds.{kindOf, meshOf, known}
 use Rattle.mesh.specs.Laws.{known-small}
 use Rattle.mesh.specs.Says.{requestAgainst, short}
 use Rattle.mesh.specs.Requests.{Fine, request-fine, checked-fine, request-refused, request-short, request-granted, room-enough}
@@ -42,7 +42,7 @@ use Rattle.sheet.specs.declared.Flaw.{Flaw}
 use Rattle.sheet.specs.declared.Flaw.the-variants as flaw
 use Rattle.sheet.specs.declared.Written.{Written}
 use Rattle.host.specs.Says.{codeOf, most, targetsIn, listAgainst, planAgainst, Answered, Planned}
-use Rattle.host.specs.Needs.{Roomy, Layable, few, Lent}
+use Rattle.host.specs.Needs.{Roomy, Layable, few}
 
 some-inj : {x y : Refusal} → some x ≡ some y → x ≡ y
 some-inj e = cc

@@ -1,7 +1,7 @@
 -- What the structs that C is given say, by what the library's answers tell; and what the calls that fill slices promise with them. The laws that put
 -- a struct together. Assumes nothing.
 use Prim.Native.Nat.{ℕ}
-use mathlib.Core.Path.{_≡_, refl, sym, ap, ap₂, _∙_}
+use mathlib.Core.Path.{_≡_, ap, ap₂, _∙_}
 use mathlib.Core.Bool.{Bool}
 use mathlib.Core.List.{List}
 use lib.ListN.{length}
@@ -11,11 +11,11 @@ use Rattle.answers.specs.Told.{Told}
 use Rattle.paths.specs.Mesh.{width}
 use Rattle.mesh.specs.Kinds.{Kind}
 use Rattle.mesh.specs.Says.{factTold}
-use Rattle.judge.specs.Verdict.{Ruling, ruling, numberOf, pathOf, placeOf}
-use Rattle.survivors.specs.Tally.{Tallied, tallied, rulingOf, wholeOf, tallyTold}
+use Rattle.judge.specs.Verdict.{Ruling, numberOf, pathOf, placeOf}
+use Rattle.survivors.specs.Tally.{Tallied, rulingOf, wholeOf}
 use Rattle.survivors.specs.Promise.{survivorsTold, Survived}
 use Rattle.survivors.specs.declared.Tally.{Tally}
-use Rattle.sheet.specs.Says.{WriteTold, wrote, writtenTold, tellWritten, writeAgainst, sheet, Wrote, ReadTold, reads, readingTold, tellRead, readsAgainst, Read}
+use Rattle.sheet.specs.Says.{WriteTold, writtenNumber, writtenBytes, tellWritten, writeAgainst, sheet, Wrote, ReadTold, readNumber, readPath, readKind, readSize, readSource, readCount, tellRead, readsAgainst, Read}
 use Rattle.sheet.specs.Format.{kindAt, sizeAt, sourceAt, countAt}
 use Rattle.sheet.specs.declared.Written.{Written}
 use Rattle.sheet.specs.declared.Reading.{Reading}
@@ -52,10 +52,18 @@ abbrev pub tallyIn : Tallied → GustAnswer
 tallyIn t = record { number = numberOf (rulingOf t); path = pathOf (rulingOf t); place = placeOf (rulingOf t); value = wholeOf t }
 
 abbrev pub writtenIn : WriteTold → GustAnswer
-writtenIn (wrote n b) = record { number = n; path = 0; place = 0; value = b }
+writtenIn t = record { number = writtenNumber t; path = 0; place = 0; value = writtenBytes t }
 
 abbrev pub readingIn : ReadTold → GustReading
-readingIn (reads n i kind size s k) = record { number = n; path = i; place = 0; kind = kind; size = size; source = s; paths = k }
+readingIn t = record {
+  number = readNumber t;
+  path = readPath t;
+  place = 0;
+  kind = readKind t;
+  size = readSize t;
+  source = readSource t;
+  paths = readCount t;
+}
 
 -- ---- the calls that fill slices: what is told, and the slices as the library's routine leaves them
 
@@ -87,13 +95,22 @@ pub verdict-same : {n i p n₁ i₁ p₁ : ℕ} → n ≡ n₁ → i ≡ i₁ �
 verdict-same {n} {i} {p} {n₁} {i₁} {p₁} a b c =
     ap₂ (λ (x y : ℕ). record { number = x; path = y; place = p }) a b ∙ ap (λ (x : ℕ). record { number = n₁; path = i₁; place = x }) c
 
-pub flawed-same : {n i n₁ i₁ : ℕ} → n ≡ n₁ → i ≡ i₁ → readingIn (reads n i 0 0 0 0) ≡ readingIn (reads n₁ i₁ 0 0 0 0)
-flawed-same a b = ap₂ (λ (x y : ℕ). readingIn (reads x y 0 0 0 0)) a b
+-- a struct of six numbers that are the same
+six : {A : Type 0} (f : (a b c d e g : ℕ) → A) {a b c d e g a₁ b₁ c₁ d₁ e₁ g₁ : ℕ} → a ≡ a₁ → b ≡ b₁ → c ≡ c₁ → d ≡ d₁ → e ≡ e₁ → g ≡ g₁
+    → f a b c d e g ≡ f a₁ b₁ c₁ d₁ e₁ g₁
+six f {a} {b} {c} {d} {e} {g} {a₁} {b₁} {c₁} {d₁} {e₁} {g₁} p q r s t u =
+    ap₂ (λ (x y : ℕ). f x y c d e g) p q ∙ ap₂ (λ (x y : ℕ). f a₁ b₁ x y e g) r s ∙ ap₂ (λ (x y : ℕ). f a₁ b₁ c₁ d₁ x y) t u
+
+-- number, path, kind, size, source and how many paths
+abbrev reading : (n i kind size s k : ℕ) → GustReading
+reading n i kind size s k = record { number = n; path = i; place = 0; kind = kind; size = size; source = s; paths = k }
+
+pub reading-same : {n i d z s k n₁ i₁ d₁ z₁ s₁ k₁ : ℕ} → n ≡ n₁ → i ≡ i₁ → d ≡ d₁ → z ≡ z₁ → s ≡ s₁ → k ≡ k₁ → reading n i d z s k ≡ reading n₁ i₁ d₁ z₁ s₁ k₁
+reading-same a b c d e f = six reading a b c d e f
 
 -- number, place and the four facts
 abbrev facts : (n p relays links longest places : ℕ) → GustFacts
 facts n p relays links longest places = record { number = n; path = 0; place = p; relays = relays; links = links; longest = longest; places = places }
 
 pub facts-same : {n p r l g w n₁ p₁ r₁ l₁ g₁ w₁ : ℕ} → n ≡ n₁ → p ≡ p₁ → r ≡ r₁ → l ≡ l₁ → g ≡ g₁ → w ≡ w₁ → facts n p r l g w ≡ facts n₁ p₁ r₁ l₁ g₁ w₁
-facts-same {n} {p} {r} {l} {g} {w} {n₁} {p₁} {r₁} {l₁} {g₁} {w₁} a b c d e f =
-    ap₂ (λ (x y : ℕ). facts x y r l g w) a b ∙ ap₂ (λ (x y : ℕ). facts n₁ p₁ x y g w) c d ∙ ap₂ (λ (x y : ℕ). facts n₁ p₁ r₁ l₁ x y) e f
+facts-same a b c d e f = six facts a b c d e f

@@ -1,7 +1,7 @@
 -- Why the next hop's call keeps its promise: a relay put at the front of a slice (`put-short`, `put-done`), and what the next hop tells
 -- (`next-place`, `next-refused`, `next-put`). Assumes nothing.
 use Prim.Native.Nat.{ℕ, _≤_, _<_}
-use mathlib.Core.Path.{_≡_, refl, sym, ap, ap₂, _∙_}
+use mathlib.Core.Path.{_≡_, refl, sym, ap, _∙_}
 use mathlib.Core.Bool.{Bool, true, false, not}
 use mathlib.Core.List.{List, _++_}
 use mathlib.Core.Option.{Option, none, some}

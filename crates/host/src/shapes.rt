@@ -107,43 +107,25 @@ pub fn of_tally(t: Tally) -> GustAnswer
 pub fn of_written(w: Written) -> GustAnswer
     ensures { λ r. ⌜ r ≡ specs.writtenIn (writtenTold w) ⌝ }
 {
-    match w {
-        Written::Bytes(n) => GustAnswer {
-            number: 0,
-            path: 0,
-            place: 0,
-            value: n as u64,
-        },
-        Written::Refused(f) => GustAnswer {
-            number: f.number(),
-            path: 0,
-            place: 0,
-            value: 0,
-        },
+    GustAnswer {
+        number: w.number(),
+        path: 0,
+        place: 0,
+        value: w.bytes() as u64,
     }
 }
 
-pub fn of_reading(r: Reading) -> GustReading
-    ensures { λ r₁. ⌜ r₁ ≡ specs.readingIn (readingTold r) ⌝ }
+pub fn of_reading(read: Reading) -> GustReading
+    ensures { λ r. ⌜ r ≡ specs.readingIn (readingTold read) ⌝ }
 {
-    match r {
-        Reading::Fan(mesh, source, k) => GustReading {
-            number: 0,
-            path: 0,
-            place: 0,
-            kind: mesh.kind,
-            size: mesh.size,
-            source: source,
-            paths: k as u64,
-        },
-        Reading::Refused(f) => GustReading {
-            number: f.number(),
-            path: f.path() as u64,
-            place: 0,
-            kind: 0,
-            size: 0,
-            source: 0,
-            paths: 0,
-        },
+    let mesh = read.mesh();
+    GustReading {
+        number: read.number(),
+        path: read.path() as u64,
+        place: 0,
+        kind: mesh.kind,
+        size: mesh.size,
+        source: read.source(),
+        paths: read.paths() as u64,
     }
 }

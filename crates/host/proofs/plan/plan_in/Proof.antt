@@ -1,6 +1,6 @@
 -- `host::plan::plan_in` meets its contract: the first 33 targets tell all. Assumes nothing.
 use native.Mathlib.Omega.{arith}
-use lib.ListN.{length, length-take}
+use lib.ListN.{length-take}
 use Rattle.host.specs.Planning.{few-most, cut-planned}
 use borrow.Author.Needs.{needs}
 use Rattle.host.proofs.plan.plan_in.Statement.{statement}
