@@ -47,7 +47,7 @@ refusal-back BadDoors = refl
 refusal-back NoRoom = refl
 
 -- the numbers of refusals: none is 0, and all are below those of the findings
-number-within : (why : Refusal) → (0 < number why) × (number why < 20)
+pub number-within : (why : Refusal) → (0 < number why) × (number why < 20)
 number-within Unreadable = omega arith
 number-within UnknownSize = omega arith
 number-within NoDistance = omega arith

@@ -130,6 +130,10 @@ known-room kind size h = go (ℕ-discrete kind CUBE)
         let few : meshOf kind size .links ≤ 6 = subst (λ (K : Kind). K .mesh size .links ≤ 6) (not-cube kind size h (λ (K : Kind). K) ne) small in
         le-trans (mul-le-mul few (known-small kind size h .1)) (omega arith)
 
+-- numbers at the front of a list
+pub at-front : (a l : List ℕ) → length a ≤ length l → sets l 0 a ≡ a ++ drop (length a) l
+at-front a l h = sets-eq a l 0 (omega arith) ∙ ap (λ (x : ℕ). a ++ drop x l) (zero-add (length a))
+
 module _ {l : List ℕ} {kind size s k : ℕ} (b : Bodied l kind size s k) (places counts targets : List ℕ) where
   abbrev want : Bool
   want = lacking l (length places) (length counts) (length targets)
@@ -218,6 +222,3 @@ module _ {l : List ℕ} {kind size s k : ℕ} (b : Bodied l kind size s k) (plac
             all =
                 subst (λ (x : ℕ). Taken l x (countAt l) (length places) (length counts) (length targets)) (e ∙ ap (λ (x : Mesh). x .longest) (mesh-is b))
                 (subst (λ (x : ℕ). Taken l longest x (length places) (length counts) (length targets)) (b .count-is) body-taken)
-
-            at-front : (a l : List ℕ) → length a ≤ length l → sets l 0 a ≡ a ++ drop (length a) l
-            at-front a l h = sets-eq a l 0 (omega arith) ∙ ap (λ (x : ℕ). a ++ drop x l) (zero-add (length a))

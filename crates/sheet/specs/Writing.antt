@@ -1,4 +1,4 @@
--- Why the writer keeps its promise: a fan can be written (`fan-sheeted`); what is told by what the judge says (`wrote-fan`, `wrote-short`, `wrote-not`).
+-- Why the writer keeps its promise: a fan can be written (`judged-sheeted`, `fan-sheeted`); what is told by what the judge says (`wrote-fan`, `wrote-short`, `wrote-not`).
 -- Assumes nothing.
 use Prim.Native.Nat.{ℕ, _+_, _*_, _≤_, _<_}
 use mathlib.Core.Path.{_≡_, refl, sym, ap, ap₂, _∙_}
@@ -14,13 +14,31 @@ use Rattle.scan.specs.Scan.{pick}
 use Rattle.paths.specs.Mesh.{width}
 use Rattle.mesh.specs.Kinds.{kindOf, meshOf}
 use Rattle.mesh.specs.Laws.{known-small}
-use Rattle.sheet.specs.Judging.{judged, judged-fine}
+use Rattle.sheet.specs.Judging.{Judged, judged, judged-fine}
 use Rattle.sheet.specs.Says.{settled, tellWritten, sheet, ruled, writeAgainst, Wrote}
 use Rattle.sheet.specs.Total.{Sheeted, Put, putAgainst}
 use Rattle.sheet.specs.declared.Flaw.{Flaw}
 use Rattle.sheet.specs.declared.Flaw.the-variants as flaw
 use Rattle.sheet.specs.declared.Written.{Written}
 use Rattle.sheet.specs.declared.Written.the-variants as written
+
+-- what the judge accepts can be written
+pub judged-sheeted : (kind size s : ℕ) (targets places counts : List ℕ) → Judged (kindOf kind) size s targets places counts → Sheeted kind size (length targets) (length places) counts
+judged-sheeted kind size s targets places counts j =
+    let fine = judged-fine (kindOf kind) size s targets j in
+    let small = known-small kind size (fine .known) in
+    record {
+      known = fine .known;
+      paths = record {
+        headed = record {
+          few = omega (arith, fine .sound .few, small .0);
+          counted = j .counted;
+          short = λ i h. omega (arith, j .fan .path i h .short, small .1);
+        };
+        room = j .room;
+        within = λ i h. omega (arith, j .fan .path i h .short);
+      };
+    }
 
 module _ (kind size s : ℕ) (targets places counts out : List ℕ) where
   abbrev k : ℕ
@@ -32,22 +50,7 @@ module _ (kind size s : ℕ) (targets places counts out : List ℕ) where
   -- ---- where the judge says 0
   module _ (z : says ≡ 0) where
     pub fan-sheeted : Sheeted kind size k (length places) counts
-    fan-sheeted =
-        let j = judged (kindOf kind) size s targets places counts z in
-        let fine = judged-fine (kindOf kind) size s targets j in
-        let small = known-small kind size (fine .known) in
-        record {
-          known = fine .known;
-          paths = record {
-            headed = record {
-              few = omega (arith, fine .sound .few, small .0);
-              counted = j .counted;
-              short = λ i h. omega (arith, j .fan .path i h .short, small .1);
-            };
-            room = j .room;
-            within = λ i h. omega (arith, j .fan .path i h .short);
-          };
-        }
+    fan-sheeted = judged-sheeted kind size s targets places counts (judged (kindOf kind) size s targets places counts z)
 
     against-put : putAgainst kind size s k places counts out ≡ writeAgainst kind size s targets places counts out
     against-put =

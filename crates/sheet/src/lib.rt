@@ -4,6 +4,7 @@ mod put;
 mod take;
 
 pub use put::put_sheet;
+pub use take::take_relays;
 ghost use mathlib.Core.Path.{_≡_};
 ghost use Rattle.sheet.specs.Says as says;
 use mesh::Mesh;

@@ -58,7 +58,7 @@ pub fn look(longest: u64, bytes: &[u8], k: usize) -> Looked
 }
 
 // Takes n relays from the place `at` of the bytes on, to the place `to`.
-fn take_relays(bytes: &[u8], at: usize, n: usize, to: usize, places: &mut [u64])
+pub fn take_relays(bytes: &[u8], at: usize, n: usize, to: usize, places: &mut [u64])
     requires { ⌜ (at + n * 8 ≤ length (now bytes)) × (to + n ≤ length (now places)) ⌝ }
     ensures { λ _. ⌜ now (places .exit) ≡ sets (now (places .entry)) to (relaysAt (now (bytes .entry)) at n) ⌝ }
 {

@@ -1,0 +1,28 @@
+-- `host::calls::code` meets its contract: number times 256 and place. Assumes nothing.
+use native.Mathlib.Omega.{arith}
+use Rattle.answers.specs.Laws.{number-within}
+use borrow.Author.Needs.{needs}
+use Rattle.host.proofs.calls.code.Statement.{statement}
+use Rattle.host.proofs.calls.code.Tie as tie
+use Rattle.host.proofs.calls.code.Reads as reads
+use Rattle.host.proofs.calls.code.Lts as lts
+use Rattle.answers.proofs.Refusal.number.Reads as number-reads
+use Rattle.answers.proofs.Refusal.place.Reads as place-reads
+
+number-requires : tie.Need-number-requires
+number-requires c κs = search needs
+
+mul-result : tie.Need-mul-result
+mul-result c = omega (arith, number-within (c .before .args .why) .1, c .number .ensures)
+
+place-requires : tie.Need-place-requires
+place-requires c κs = search needs
+
+add-result : tie.Need-add-result
+add-result c = omega (arith, number-within (c .before .before .args .why) .1, c .before .number .ensures, c .place .ensures, c .before .before .pre)
+
+returns : tie.Need-returns
+returns c = omega (arith, c .before .number .ensures, c .place .ensures)
+
+pub code-spec : {M : Type 1} → statement M
+code-spec = tie.close (tie.spec number-requires mul-result place-requires add-result returns)

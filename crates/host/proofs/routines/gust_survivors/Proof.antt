@@ -1,0 +1,33 @@
+-- `host::routines::gust_survivors` meets its contract: what survivors tells and leaves. Assumes nothing.
+use mathlib.Core.Path.{ap, _∙_}
+use Rattle.host.specs.Shapes.{tallyIn}
+use borrow.Author.Needs.{needs}
+use Rattle.host.proofs.routines.gust_survivors.Statement.{statement}
+use Rattle.host.proofs.routines.gust_survivors.Tie as tie
+use Rattle.host.proofs.routines.gust_survivors.Reads as reads
+use Rattle.host.proofs.routines.gust_survivors.Lts as lts
+use Rattle.host.proofs.shapes.of_tally.Reads as of-tally-reads
+use Rattle.survivors.proofs.survivors.Reads as survivors-reads
+
+survivors-requires : tie.Need-survivors-requires
+survivors-requires c κs = search needs
+
+of-tally-requires : tie.Need-of-tally-requires
+of-tally-requires c κs = search needs
+
+same-length : tie.Need-same-length
+same-length c = search needs
+
+same-length-2 : tie.Need-same-length-2
+same-length-2 c = search needs
+
+same-length-3 : tie.Need-same-length-3
+same-length-3 c = search needs
+
+returns : tie.Need-returns
+returns c = let p = c .before .before .before .before .before .before .before .survivors .ensures in record { told = c .of-tally .ensures ∙ ap tallyIn (p .told); tally = _; left = p }
+
+pub gust-survivors-spec : {M : Type 1} → statement M
+gust-survivors-spec =
+    tie.close
+    (tie.spec survivors-requires of-tally-requires same-length same-length-2 same-length-3 returns)

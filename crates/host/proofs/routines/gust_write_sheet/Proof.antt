@@ -1,0 +1,25 @@
+-- `host::routines::gust_write_sheet` meets its contract: what the writer tells and leaves. Assumes nothing.
+use mathlib.Core.Path.{ap, _∙_}
+use Rattle.host.specs.Shapes.{writtenIn}
+use borrow.Author.Needs.{needs}
+use Rattle.host.proofs.routines.gust_write_sheet.Statement.{statement}
+use Rattle.host.proofs.routines.gust_write_sheet.Tie as tie
+use Rattle.host.proofs.routines.gust_write_sheet.Reads as reads
+use Rattle.host.proofs.routines.gust_write_sheet.Lts as lts
+use Rattle.host.proofs.shapes.of_written.Reads as of-written-reads
+use Rattle.sheet.proofs.write.Reads as write-reads
+
+write-requires : tie.Need-write-requires
+write-requires c κs = search needs
+
+of-written-requires : tie.Need-of-written-requires
+of-written-requires c κs = search needs
+
+same-length : tie.Need-same-length
+same-length c = search needs
+
+returns : tie.Need-returns
+returns c = let p = c .before .before .before .write .ensures in record { told = c .of-written .ensures ∙ ap writtenIn (p .told); written = _; left = p }
+
+pub gust-write-sheet-spec : {M : Type 1} → statement M
+gust-write-sheet-spec = tie.close (tie.spec write-requires of-written-requires same-length returns)

@@ -1,0 +1,20 @@
+// The library for programs in C and C++: every routine as an exported function over numbers and slices. include/gustparsley.h declares them.
+mod calls;
+mod plan;
+mod routines;
+mod shapes;
+
+pub use calls::gust_next_hop;
+pub use calls::gust_plan;
+pub use routines::gust_distance;
+pub use routines::gust_facts;
+pub use routines::gust_judge;
+pub use routines::gust_linked;
+pub use routines::gust_read_sheet;
+pub use routines::gust_route;
+pub use routines::gust_survivors;
+pub use routines::gust_write_sheet;
+pub use shapes::GustAnswer;
+pub use shapes::GustFacts;
+pub use shapes::GustReading;
+pub use shapes::GustVerdict;

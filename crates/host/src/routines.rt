@@ -1,0 +1,182 @@
+// Facts, links, distance, route, judge, survivors and sheets over numbers and slices: the library's own routines, and nothing added.
+ghost use mathlib.Core.Path.{_≡_};
+ghost use mathlib.Core.Bool.{false};
+ghost use Rattle.mesh.specs.Kinds.{kindOf};
+ghost use Rattle.mesh.specs.Says.{linkedTold, distanceTold, routeTold, routeLeaves};
+ghost use Rattle.judge.specs.Verdict.{judgeTold};
+ghost use Rattle.host.specs.Shapes as specs;
+use crate::shapes;
+use crate::shapes::GustAnswer;
+use crate::shapes::GustFacts;
+use crate::shapes::GustReading;
+use crate::shapes::GustVerdict;
+use mesh::Mesh;
+
+// The facts of a size: of kind 2 and size 3 there are 2,048 relays with 4 links each, the longest path has 42 hops and takes 43 places. Refuses with 1.
+#[no_mangle]
+pub extern "C" fn gust_facts(kind: u64, size: u64) -> GustFacts
+    ensures { λ r. ⌜ r ≡ specs.factsIn (kindOf kind) size ⌝ }
+{
+    let mesh = Mesh {
+        kind: kind,
+        size: size,
+    };
+    let relays = mesh.relays();
+    GustFacts {
+        number: relays.number(),
+        path: 0,
+        place: relays.place() as u64,
+        relays: relays.value(),
+        links: mesh.links().value(),
+        longest: mesh.longest().value(),
+        places: mesh.places().value(),
+    }
+}
+
+// `mesh::linked`: the value is 1 for yes.
+#[no_mangle]
+pub extern "C" fn gust_linked(kind: u64, size: u64, source: u64, target: u64) -> GustAnswer
+    ensures { λ r. ⌜ r ≡ specs.yesNoIn (linkedTold (kindOf kind) size source target) ⌝ }
+{
+    shapes::of_yes_no(mesh::linked(
+        Mesh {
+            kind: kind,
+            size: size,
+        },
+        source,
+        target,
+    ))
+}
+
+// `mesh::distance`: the value is the distance.
+#[no_mangle]
+pub extern "C" fn gust_distance(kind: u64, size: u64, source: u64, target: u64) -> GustAnswer
+    ensures { λ r. ⌜ r ≡ specs.answerIn (distanceTold (kindOf kind) size source target) ⌝ }
+{
+    shapes::of_answer(mesh::distance(
+        Mesh {
+            kind: kind,
+            size: size,
+        },
+        source,
+        target,
+    ))
+}
+
+// `mesh::route`: the value is the hops.
+#[no_mangle]
+pub extern "C" fn gust_route(
+    kind: u64,
+    size: u64,
+    source: u64,
+    target: u64,
+    out: &mut [u64],
+) -> GustAnswer
+    ensures { λ r. ⌜ r ≡ specs.answerIn (routeTold (kindOf kind) size source target (now (out .entry))) ⌝ }
+    ensures { λ r. ⌜ now (out .exit) ≡ routeLeaves (kindOf kind) size source target (now (out .entry)) ⌝ }
+{
+    shapes::of_answer(mesh::route(
+        Mesh {
+            kind: kind,
+            size: size,
+        },
+        source,
+        target,
+        out,
+    ))
+}
+
+// `judge::judge`.
+#[no_mangle]
+pub extern "C" fn gust_judge(
+    kind: u64,
+    size: u64,
+    source: u64,
+    targets: &[u64],
+    places: &[u64],
+    counts: &[u64],
+) -> GustVerdict
+    ensures { λ r. ⌜ r ≡ specs.verdictIn (judgeTold (kindOf kind) size source (now (targets .entry)) (now (places .entry)) (now (counts .entry)) false) ⌝ }
+{
+    shapes::of_verdict(judge::judge(
+        Mesh {
+            kind: kind,
+            size: size,
+        },
+        source,
+        targets,
+        places,
+        counts,
+    ))
+}
+
+// `survivors::survivors`: the value is how many paths are whole.
+#[no_mangle]
+pub extern "C" fn gust_survivors(
+    kind: u64,
+    size: u64,
+    source: u64,
+    targets: &[u64],
+    places: &[u64],
+    counts: &[u64],
+    stopped: &[u64],
+    ends: &mut [u64],
+    hops: &mut [u64],
+    wholes: &mut [u64],
+) -> GustAnswer
+    ensures { λ r. ⌜ specs.SurvivedIn (kindOf kind) size source (now (targets .entry)) (now (places .entry)) (now (counts .entry)) (now (stopped .entry)) (now (ends .entry)) (now (hops .entry)) (now (wholes .entry)) r (now (ends .exit)) (now (hops .exit)) (now (wholes .exit)) ⌝ }
+{
+    shapes::of_tally(survivors::survivors(
+        Mesh {
+            kind: kind,
+            size: size,
+        },
+        source,
+        targets,
+        places,
+        counts,
+        stopped,
+        ends,
+        hops,
+        wholes,
+    ))
+}
+
+// `sheet::write`: the value is how many bytes the sheet takes.
+#[no_mangle]
+pub extern "C" fn gust_write_sheet(
+    kind: u64,
+    size: u64,
+    source: u64,
+    targets: &[u64],
+    places: &[u64],
+    counts: &[u64],
+    out: &mut [u8],
+) -> GustAnswer
+    ensures { λ r. ⌜ specs.WroteIn kind size source (now (targets .entry)) (now (places .entry)) (now (counts .entry)) (now (out .entry)) r (now (out .exit)) ⌝ }
+{
+    shapes::of_written(sheet::write(
+        Mesh {
+            kind: kind,
+            size: size,
+        },
+        source,
+        targets,
+        places,
+        counts,
+        out,
+    ))
+}
+
+// `sheet::read`.
+#[no_mangle]
+pub extern "C" fn gust_read_sheet(
+    bytes: &[u8],
+    places: &mut [u64],
+    counts: &mut [u64],
+    targets: &mut [u64],
+) -> GustReading
+    ensures { λ r. ⌜ specs.ReadIn (now (bytes .entry)) (now (places .entry)) (now (counts .entry)) (now (targets .entry)) r (now (places .exit)) (now (counts .exit)) (now (targets .exit)) ⌝ }
+{
+    shapes::of_reading(sheet::read(bytes, places, counts, targets))
+}

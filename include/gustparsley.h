@@ -1,0 +1,186 @@
+/* Gustparsley for C and C++: fans of paths over a mesh of relays, next hops, routes, distances, the judge, survivors and sheets.
+ *
+ * Link with target/staticlib/libhost.a, which ./build makes. Every function here is proved to keep what its comment says. It allocates nothing, keeps
+ * nothing between calls and may be called from several threads at once.
+ *
+ * Meshes. kind 1 is the plain cube, sizes 1 to 32 (its dimensions); kind 2 is the two-level mesh, sizes 1 to 5 (its order). Relays are the numbers below
+ * `relays`; each has `links` links; a path has at most `longest` hops and takes W = longest + 1 places (gust_facts tells them). Any numbers may be passed:
+ * what is no mesh, no relay and so on is refused, as told below.
+ *
+ * Slices. A slice is a pointer and how many elements it has; the pointer must not be null, even for 0 elements, must be aligned for its type and must be
+ * good for that many. A slice lent for writing must overlap no other slice of the call. Nothing outside a slice is read or written.
+ *
+ * Fans in slices. Path i starts at place i * W of `places`, the source first, and has `counts[i]` hops; its places after its last relay hold GUST_UNUSED.
+ * `targets[i]` is where it ends. There are k paths, one for each target.
+ *
+ * Refusals. Every call tells a number, 0 where all is well, and with some numbers a place or a path. No call that tells a number other than 0 changes
+ * any slice, and then every other value it returns is 0. Where several numbers apply, the first in the order given with each function is told. */
+#ifndef GUSTPARSLEY_H
+#define GUSTPARSLEY_H
+
+#include <stddef.h>
+#include <stdint.h>
+
+#ifdef __cplusplus
+extern "C" {
+#endif
+
+enum {
+  GUST_CUBE = 1,
+  GUST_TWO_LEVEL = 2
+};
+
+/* What an unused place of a path holds: 2^64 - 1. */
+#define GUST_UNUSED UINT64_MAX
+
+/* The numbers. The place is 0 unless said otherwise. */
+enum {
+  GUST_FINE = 0,
+  GUST_UNKNOWN_SIZE = 1,     /* no such kind or size */
+  GUST_SOURCE_OUT = 2,       /* the source is no relay */
+  GUST_NO_TARGET = 3,        /* no target */
+  GUST_TOO_MANY = 4,         /* more targets than a relay has links */
+  GUST_TARGET_OUT = 5,       /* a target is no relay; its place in the list */
+  GUST_TARGET_IS_SOURCE = 6, /* a target is the source; its place in the list */
+  GUST_TARGET_AGAIN = 7,     /* a target stands earlier in the list; its place in the list */
+  GUST_NO_ROOM = 8,          /* a lent slice is too short */
+  GUST_NO_DISTANCE = 9,      /* distances are not answered for cubes and for orders 4 and 5 */
+  GUST_UNREADABLE = 10,      /* the target bytes are no multiple of 8 */
+  /* Findings of the judge, each with its path: */
+  GUST_TOO_LONG = 20,        /* more hops than the longest path has */
+  GUST_NOT_FROM_SOURCE = 21, /* place 0 is not the source */
+  GUST_NOT_LINKED = 22,      /* a relay not linked to the one before, or none; the place of the first such */
+  GUST_NOT_TO_TARGET = 23,   /* the last relay is not the target; the place is the hop count */
+  GUST_SEEN_AGAIN = 24,      /* a relay that stands earlier on the path or, the source at place 0 excepted, on an earlier path; the first place */
+  GUST_NOT_FILLED = 25,      /* an unused place does not hold GUST_UNUSED; the first place */
+  /* Flaws of a sheet: */
+  GUST_CUT = 30,             /* fewer than 16 bytes, a wrong length field, or a path that runs out of bytes */
+  GUST_VERSION = 31,         /* the version is not 1 */
+  GUST_NO_MESH = 32,         /* no such kind or size */
+  GUST_PATHS = 33,           /* no path, or more than a relay has links */
+  GUST_HOPS = 34,            /* a path with no hops, or more than the longest has; its path */
+  GUST_NOT_A_FAN = 35,       /* the request or the paths fail the judge */
+  GUST_LEFT_OVER = 36        /* bytes are left over */
+};
+
+/* ---- the region host's two calls. Each returns number * 256 + place, so 0 for success. (Every place told here is below 256.) */
+
+/* Writes the relay after `source` on the plain route to `target`, 8 bytes big-endian, at the start of `out`; it is `source` itself where that is the target.
+ * Bytes of `out` after the eighth stay as they were. Numbers, in this order: 1, 2, 5, and 8 where `out_len` is below 8. */
+uint64_t gust_next_hop(uint64_t kind, uint64_t size, uint64_t source, uint64_t target, uint8_t *out, size_t out_len);
+
+/* Plans a fan from `source` to the targets, numbers of 8 bytes each, big-endian, and writes its sheet (docs/SHEETS.md) at the start of `out`: a path to
+ * each target in their order, none longer than the longest, that meet nowhere but at the source. Which fan it is, where there are several, is the
+ * library's choice. Bytes of `out` after the sheet stay as they were. Numbers, in this order: 10 where `targets_len` is no multiple of 8; 1, 2, 3, 4, 5, 6, 7;
+ * and 8 exactly where `out_len` is below 16 + k * (2 + 8 * longest), though the sheet itself may be shorter. */
+uint64_t gust_plan(uint64_t kind, uint64_t size, uint64_t source, const uint8_t *targets, size_t targets_len, uint8_t *out, size_t out_len);
+
+/* ---- the library's routines over numbers and slices */
+
+typedef struct GustAnswer {
+  uint64_t number, path, place, value;
+} GustAnswer;
+
+typedef struct GustFacts {
+  uint64_t number, path, place, relays, links, longest, places;
+} GustFacts;
+
+typedef struct GustVerdict {
+  uint64_t number, path, place;
+} GustVerdict;
+
+typedef struct GustReading {
+  uint64_t number, path, place, kind, size, source, paths;
+} GustReading;
+
+/* The facts of a size: relays, links of each, hops of the longest path, places that a path takes. Number: 1. */
+GustFacts gust_facts(uint64_t kind, uint64_t size);
+
+/* Whether two relays are linked: value 1 for yes, 0 for no. Numbers, in this order: 1, 2, 5. */
+GustAnswer gust_linked(uint64_t kind, uint64_t size, uint64_t source, uint64_t target);
+
+/* The fewest links between two relays, for the two-level mesh of orders 1 to 3. Numbers, in this order: 1, 9, 2, 5. */
+GustAnswer gust_distance(uint64_t kind, uint64_t size, uint64_t source, uint64_t target);
+
+/* Writes the plain route, both ends included, from place 0 of `out`; the value is its hops. Places after its last relay stay as they were. Numbers, in this
+ * order: 1, 2, 5, and 8 where `out_len` is below hops + 1. */
+GustAnswer gust_route(uint64_t kind, uint64_t size, uint64_t source, uint64_t target, uint64_t *out, size_t out_len);
+
+/* Judges whether places and counts hold a fan from the source to the targets: number 0 where they do. Places and counts beyond the k paths are not looked at.
+ * Numbers, in this order: 1 to 7; 8 where there are fewer than k * W places or k counts; then the first finding, 20 to 25, of the first path that has one. */
+GustVerdict gust_judge(uint64_t kind, uint64_t size, uint64_t source, const uint64_t *targets, size_t targets_len, const uint64_t *places, size_t places_len,
+                       const uint64_t *counts, size_t counts_len);
+
+/* Of a fan, which paths are whole: those on which no relay is in `stopped`. Writes for path i its target to ends[i], its hops to hops[i], and 1 to wholes[i]
+ * where it is whole, else 0; elements from k on stay as they were. The value is how many are whole. Numbers, in this order: 1 to 7; 8 where there are fewer
+ * than k * W places, k counts or k of ends, hops or wholes; then 20 to 25. */
+GustAnswer gust_survivors(uint64_t kind, uint64_t size, uint64_t source, const uint64_t *targets, size_t targets_len, const uint64_t *places,
+                          size_t places_len, const uint64_t *counts, size_t counts_len, const uint64_t *stopped, size_t stopped_len, uint64_t *ends,
+                          size_t ends_len, uint64_t *hops, size_t hops_len, uint64_t *wholes, size_t wholes_len);
+
+/* Writes the sheet of a fan at the start of `out`; the value is its length in bytes. Bytes after it stay as they were. Numbers: 35 where the judge tells a
+ * number but 8; 8 where it tells 8, or where `out_len` is below the length of the sheet. */
+GustAnswer gust_write_sheet(uint64_t kind, uint64_t size, uint64_t source, const uint64_t *targets, size_t targets_len, const uint64_t *places,
+                            size_t places_len, const uint64_t *counts, size_t counts_len, uint8_t *out, size_t out_len);
+
+/* Reads one sheet, all of `bytes`: fills places, counts and targets with its k paths as said above; elements beyond them stay as they were. Returns kind, size,
+ * source and k. Numbers, in this order: 30 (fewer than 16 bytes, or a wrong length field), 31, 32, 33, 8 where there are fewer than k * W places, k counts or
+ * k targets; path by path 30 and 34; 36; 35. */
+GustReading gust_read_sheet(const uint8_t *bytes, size_t bytes_len, uint64_t *places, size_t places_len, uint64_t *counts, size_t counts_len,
+                            uint64_t *targets, size_t targets_len);
+
+#ifdef __cplusplus
+}
+
+/* ---- the two calls over spans, for C++17 */
+#include <utility>
+namespace gust {
+
+enum class Reason : uint64_t {
+  kFine = GUST_FINE,
+  kUnknownSize = GUST_UNKNOWN_SIZE,
+  kSourceOut = GUST_SOURCE_OUT,
+  kNoTarget = GUST_NO_TARGET,
+  kTooMany = GUST_TOO_MANY,
+  kTargetOut = GUST_TARGET_OUT,
+  kTargetIsSource = GUST_TARGET_IS_SOURCE,
+  kTargetAgain = GUST_TARGET_AGAIN,
+  kNoRoom = GUST_NO_ROOM,
+  kUnreadable = GUST_UNREADABLE
+};
+
+/* The reason and its place; true where all is well. */
+struct Outcome {
+  Reason reason;
+  uint64_t place;
+  explicit operator bool() const { return reason == Reason::kFine; }
+};
+
+/* A pointer and a count, made of anything that has data() and size(), as std::vector, std::array or std::span. */
+template <class T>
+struct Span {
+  T *data;
+  size_t size;
+  Span(T *at, size_t count) : data(at), size(count) {}
+  template <class C, class = decltype(std::declval<C>().data())>
+  Span(C &&from) : data(from.data()), size(from.size()) {}
+};
+
+inline Outcome outcome(uint64_t code) { return {static_cast<Reason>(code / 256), code % 256}; }
+
+/* gust_next_hop. (An empty span may have a null pointer here.) */
+inline Outcome next_hop(uint64_t kind, uint64_t size, uint64_t source, uint64_t target, Span<uint8_t> out) {
+  uint8_t none = 0;
+  return outcome(gust_next_hop(kind, size, source, target, out.size ? out.data : &none, out.size));
+}
+
+/* gust_plan. */
+inline Outcome plan(uint64_t kind, uint64_t size, uint64_t source, Span<const uint8_t> targets, Span<uint8_t> out) {
+  uint8_t none[2] = {0, 0};
+  return outcome(gust_plan(kind, size, source, targets.size ? targets.data : none, targets.size, out.size ? out.data : none + 1, out.size));
+}
+
+}  // namespace gust
+#endif
+
+#endif

@@ -1,0 +1,505 @@
+// The calls for C and C++ compared with tests/host_model.hpp: every kind of good and bad input, guard bytes around every buffer, and every slice compared
+// afterwards with what it should hold. `host small` runs a part, for a slow machine such as valgrind's.
+#include "gustparsley.h"
+#include "host_model.hpp"
+
+#include <cstdio>
+#include <cstdlib>
+#include <cstring>
+#include <map>
+#include <random>
+#include <string>
+
+namespace {
+
+using model::Bytes;
+using model::Mesh;
+using model::Told;
+using model::Words;
+
+bool small = false;
+unsigned long long compared = 0;
+std::mt19937_64 dice(7);
+
+// The numbers that each call was met with.
+std::map<std::string, std::set<uint64_t>> met;
+
+uint64_t below(uint64_t n) { return n ? dice() % n : 0; }
+
+[[noreturn]] void fail(const char *what, const Mesh &mesh, uint64_t source, uint64_t got, uint64_t want) {
+  std::printf("host: FAILED: %s: kind %llu, size %llu, source %llu: got %llu, should be %llu\n", what, (unsigned long long)mesh.kind,
+              (unsigned long long)mesh.size, (unsigned long long)source, (unsigned long long)got, (unsigned long long)want);
+  std::exit(1);
+}
+
+void same(const char *what, const Mesh &mesh, uint64_t source, uint64_t got, uint64_t want) {
+  ++compared;
+  if (got != want) fail(what, mesh, source, got, want);
+}
+
+// The number that a call told.
+void numbered(const char *call, const Mesh &mesh, uint64_t source, uint64_t got, uint64_t want) {
+  same(call, mesh, source, got, want);
+  met[call].insert(got);
+}
+
+// A buffer of n elements with guards around it; what it held at first is kept.
+template <class T>
+class Lent {
+ public:
+  explicit Lent(size_t n) : n_(n), all_(n + 2 * kGuard) {
+    for (auto &x : all_) x = static_cast<T>(dice());
+    was_ = all_;
+  }
+  explicit Lent(const std::vector<T> &held) : Lent(held.size()) {
+    std::copy(held.begin(), held.end(), all_.begin() + kGuard);
+    was_ = all_;
+  }
+  T *data() { return all_.data() + kGuard; }
+  size_t size() const { return n_; }
+  std::vector<T> now() const { return {all_.begin() + kGuard, all_.end() - kGuard}; }
+  // Whether the buffer begins with `front` and is else as it was, guards too.
+  bool holds(const std::vector<T> &front) const {
+    std::vector<T> want = was_;
+    std::copy(front.begin(), front.end(), want.begin() + kGuard);
+    return all_ == want;
+  }
+  bool untouched() const { return all_ == was_; }
+
+ private:
+  static constexpr size_t kGuard = 8;
+  size_t n_;
+  std::vector<T> all_, was_;
+};
+
+void held(const char *what, bool ok, const Mesh &mesh, uint64_t source) {
+  ++compared;
+  if (!ok) fail(what, mesh, source, 0, 1);
+}
+
+Bytes bytes_of(const Words &words) {
+  Bytes all;
+  for (uint64_t x : words) model::put(all, x, 8);
+  return all;
+}
+
+std::vector<Mesh> meshes() {
+  std::vector<Mesh> all;
+  for (uint64_t n = 1; n <= 32; ++n) all.push_back({1, n});
+  for (uint64_t m = 1; m <= 5; ++m) all.push_back({2, m});
+  return all;
+}
+
+// ---- facts
+
+void facts() {
+  Words kinds{0, 1, 2, 3, 4, 257, ~uint64_t{0}}, sizes{64, 65, 255, 256, 257, uint64_t{1} << 32, ~uint64_t{0}};
+  for (uint64_t n = 0; n <= 40; ++n) sizes.push_back(n);
+  for (uint64_t kind : kinds)
+    for (uint64_t size : sizes) {
+      const Mesh mesh{kind, size};
+      const GustFacts f = gust_facts(kind, size);
+      const bool k = mesh.known();
+      numbered("facts", mesh, 0, f.number, k ? 0 : 1);
+      same("facts: path and place", mesh, 0, f.path + f.place, 0);
+      same("facts: relays", mesh, 0, f.relays, k ? mesh.relays() : 0);
+      same("facts: links", mesh, 0, f.links, k ? mesh.links() : 0);
+      same("facts: longest", mesh, 0, f.longest, k ? mesh.longest() : 0);
+      same("facts: places", mesh, 0, f.places, k ? mesh.width() : 0);
+    }
+}
+
+// ---- a source and a target
+
+void answered(const char *what, const Mesh &mesh, uint64_t s, const GustAnswer &a, const Told &told, uint64_t value) {
+  numbered(what, mesh, s, a.number, told.number);
+  same(what, mesh, s, a.path, told.path);
+  same(what, mesh, s, a.place, told.place);
+  same(what, mesh, s, a.value, told.number ? 0 : value);
+}
+
+void next_hop(const Mesh &mesh, uint64_t s, uint64_t t, size_t room) {
+  Lent<uint8_t> out(room);
+  uint64_t number = mesh.pair(s, t, false);
+  if (!number && room < 8) number = 8;
+  const uint64_t code = gust_next_hop(mesh.kind, mesh.size, s, t, out.data(), out.size());
+  numbered("next hop", mesh, s, code / 256, number);
+  same("next hop: place", mesh, s, code % 256, 0);
+  held("next hop: bytes", number ? out.untouched() : out.holds(bytes_of({mesh.next(s, t)})), mesh, s);
+}
+
+void route(const Mesh &mesh, uint64_t s, uint64_t t, size_t room) {
+  Lent<uint64_t> out(room);
+  uint64_t number = mesh.pair(s, t, false);
+  const Words way = number ? Words{} : mesh.route(s, t);
+  if (!number && room < way.size()) number = 8;
+  answered("route", mesh, s, gust_route(mesh.kind, mesh.size, s, t, out.data(), out.size()), {number, 0, 0}, way.empty() ? 0 : way.size() - 1);
+  held("route: places", number ? out.untouched() : out.holds(way), mesh, s);
+}
+
+void pair(const Mesh &mesh, uint64_t s, uint64_t t) {
+  const uint64_t number = mesh.pair(s, t, false);
+  answered("linked", mesh, s, gust_linked(mesh.kind, mesh.size, s, t), {number, 0, 0}, number ? 0 : mesh.linked(s, t));
+  for (size_t room : {0, 7, 8, 9}) next_hop(mesh, s, t, room);
+  const size_t length = number ? 1 : mesh.route(s, t).size();
+  for (size_t room : {size_t{0}, length - 1, length, length + 3}) route(mesh, s, t, room);
+}
+
+void pairs() {
+  const Words far{~uint64_t{0}, uint64_t{1} << 63, uint64_t{1} << 37, uint64_t{1} << 32};
+  for (Mesh mesh : meshes()) {
+    const uint64_t n = mesh.relays();
+    if (n <= 64 && !small) {
+      for (uint64_t s = 0; s < n; ++s)
+        for (uint64_t t = 0; t < n; ++t) pair(mesh, s, t);
+    } else {
+      for (int i = 0; i < (small ? 3 : 300); ++i) {
+        const uint64_t s = below(n);
+        pair(mesh, s, below(n));
+        const Words near = mesh.neighbours(s);
+        pair(mesh, s, near[below(near.size())]);
+        pair(mesh, s, s);
+      }
+    }
+    for (uint64_t x : far) {
+      pair(mesh, x, below(n));
+      pair(mesh, below(n), x);
+      pair(mesh, x, x);
+    }
+    pair(mesh, n - 1, n);
+    pair(mesh, n, n - 1);
+  }
+  for (Mesh mesh : {Mesh{0, 1}, Mesh{1, 0}, Mesh{1, 33}, Mesh{2, 0}, Mesh{2, 6}, Mesh{3, 1}, Mesh{258, 1}, Mesh{~uint64_t{0}, 1}, Mesh{1, ~uint64_t{0}}}) {
+    pair(mesh, 0, 1);
+    pair(mesh, ~uint64_t{0}, 0);
+  }
+}
+
+void distances() {
+  for (Mesh mesh : meshes()) {
+    const bool answers = mesh.kind == 2 && mesh.size <= 3;
+    for (int i = 0; i < (small ? 1 : answers ? 60 : 3); ++i) {
+      const uint64_t s = below(mesh.relays());
+      const Words far = answers ? mesh.distances(s) : Words{};
+      for (uint64_t t = 0; t < (answers ? mesh.relays() : 3); ++t)
+        answered("distance", mesh, s, gust_distance(mesh.kind, mesh.size, s, t), {mesh.pair(s, t, true), 0, 0}, answers ? far[t] : 0);
+    }
+    for (uint64_t x : {mesh.relays(), ~uint64_t{0}}) {
+      answered("distance", mesh, x, gust_distance(mesh.kind, mesh.size, x, 0), {mesh.pair(x, 0, true), 0, 0}, 0);
+      answered("distance", mesh, 0, gust_distance(mesh.kind, mesh.size, 0, x), {mesh.pair(0, x, true), 0, 0}, 0);
+    }
+  }
+  answered("distance", {2, 6}, 0, gust_distance(2, 6, ~uint64_t{0}, 0), {1, 0, 0}, 0);
+}
+
+// ---- requests
+
+// k targets of a mesh, each another relay than the source, some of them near each other.
+Words aims(const Mesh &mesh, uint64_t s, size_t k) {
+  std::set<uint64_t> all;
+  Words list;
+  while (list.size() < k) {
+    uint64_t t = below(mesh.relays());
+    if (below(2)) {
+      const Words near = mesh.neighbours(below(2) || list.empty() ? s : list.back());
+      t = near[below(near.size())];
+    }
+    if (t != s && all.insert(t).second) list.push_back(t);
+  }
+  return list;
+}
+
+size_t paths_of(const Mesh &mesh) { return 1 + below(std::min(mesh.links(), mesh.relays() - 1)); }
+
+// gust_plan of target bytes into so much room; its sheet, where it gives one.
+Bytes plan(const Mesh &mesh, uint64_t s, const Bytes &asked, size_t room) {
+  Lent<uint8_t> in(asked), out(room);
+  Told told;
+  Words targets;
+  if (asked.size() % 8) {
+    told.number = 10;
+  } else {
+    for (size_t i = 0; i < asked.size(); i += 8) targets.push_back(model::number(asked, i, 8));
+    told = mesh.request(s, targets);
+    if (!told.number && room < mesh.most(targets.size())) told.number = 8;
+  }
+  const uint64_t code = gust_plan(mesh.kind, mesh.size, s, in.data(), in.size(), out.data(), out.size());
+  numbered("plan", mesh, s, code / 256, told.number);
+  same("plan: place", mesh, s, code % 256, told.place);
+  held("plan: target bytes", in.untouched(), mesh, s);
+  if (told.number) {
+    held("plan: bytes of a refusal", out.untouched(), mesh, s);
+    return {};
+  }
+  Bytes now = out.now();
+  const size_t length = model::number(now, 0, 4) + 4;
+  held("plan: length", length <= room, mesh, s);
+  now.resize(length);
+  held("plan: bytes after the sheet", out.holds(now), mesh, s);
+  const model::Reading r = model::read(now, ~size_t{0}, 32, 32);
+  same("plan: what the model reads", mesh, s, r.told.number, 0);
+  held("plan: head", r.mesh.kind == mesh.kind && r.mesh.size == mesh.size && r.source == s && r.targets == targets, mesh, s);
+  return now;
+}
+
+void plans() {
+  for (Mesh mesh : meshes()) {
+    for (int i = 0; i < (small ? 2 : 60); ++i) {
+      const uint64_t s = below(mesh.relays());
+      const size_t k = paths_of(mesh);
+      Words targets = aims(mesh, s, k);
+      const size_t most = mesh.most(k);
+      plan(mesh, s, bytes_of(targets), most);
+      plan(mesh, s, bytes_of(targets), most + below(40));
+      plan(mesh, s, bytes_of(targets), most - 1);
+      plan(mesh, s, bytes_of(targets), below(most));
+      for (int cut = 1; cut < 8; ++cut) {
+        Bytes odd = bytes_of(targets);
+        odd.resize(odd.size() - cut);
+        plan(mesh, s, odd, most);
+      }
+      // faults, one or more at once, in any order
+      for (int j = 0; j < 12; ++j) {
+        Words bad = targets;
+        uint64_t from = s;
+        for (int f = 0; f < 1 + (int)below(3); ++f) switch (below(6)) {
+            case 0: bad[below(bad.size())] = mesh.relays() + below(2) * below(~uint64_t{0} - mesh.relays()); break;
+            case 1: bad[below(bad.size())] = s; break;
+            case 2: bad[below(bad.size())] = bad[below(bad.size())]; break;
+            case 3: bad.push_back(below(mesh.relays())); break;
+            case 4: from = below(2) ? mesh.relays() : ~uint64_t{0}; break;
+            case 5: bad.resize(mesh.links() + 1 + below(3), bad[0]); break;
+          }
+        plan(mesh, from, bytes_of(bad), below(2) ? mesh.most(bad.size()) : below(most));
+      }
+    }
+    plan(mesh, 0, {}, 100);
+    for (size_t k : {size_t{31}, size_t{32}, size_t{33}, size_t{34}, size_t{300}}) {
+      Words many;
+      for (size_t i = 0; i < k; ++i) many.push_back(i + 1);
+      plan(mesh, 0, bytes_of(many), mesh.most(k));
+      plan(mesh, mesh.relays(), bytes_of(many), 0);
+    }
+  }
+  for (Mesh mesh : {Mesh{0, 1}, Mesh{1, 0}, Mesh{1, 33}, Mesh{2, 6}, Mesh{3, 2}, Mesh{257, 3}, Mesh{2, uint64_t{1} << 40}}) {
+    plan(mesh, 0, bytes_of({1, 2}), 9999);
+    plan(mesh, 0, {}, 0);
+    plan(mesh, 0, bytes_of(Words(40, 5)), 10);
+    plan(mesh, ~uint64_t{0}, Bytes(9), 10);
+  }
+}
+
+// The C++ wrapper says the same, and takes an empty span that points nowhere.
+void wrapper() {
+  Bytes out(8), none;
+  const gust::Outcome hop = gust::next_hop(GUST_TWO_LEVEL, 2, 0, 23, out);
+  same("wrapper: next hop", {2, 2}, 0, model::number(out, 0, 8), 4);
+  held("wrapper: fine", bool(hop) && hop.place == 0, {2, 2}, 0);
+  const gust::Outcome at = gust::plan(GUST_CUBE, 3, 0, bytes_of({1, 0, 1}), out);
+  held("wrapper: case M", at.reason == gust::Reason::kTargetIsSource && at.place == 1, {1, 3}, 0);
+  held("wrapper: nowhere", gust::plan(GUST_CUBE, 3, 0, none, none).reason == gust::Reason::kNoTarget, {1, 3}, 0);
+  held("wrapper: no room", gust::next_hop(GUST_CUBE, 3, 0, 1, none).reason == gust::Reason::kNoRoom, {1, 3}, 0);
+}
+
+// ---- the judge, survivors and the writer
+
+struct Fan {
+  Mesh mesh;
+  uint64_t source;
+  Words targets, places, counts;
+};
+
+Fan fan(const Mesh &mesh, size_t k) {
+  const uint64_t s = below(mesh.relays());
+  const Words targets = aims(mesh, s, k);
+  const model::Reading r = model::read(plan(mesh, s, bytes_of(targets), mesh.most(k)), ~size_t{0}, 32, 32);
+  return {mesh, s, r.targets, r.places, r.counts};
+}
+
+void judged(const Fan &f, const Words &stopped, size_t e, size_t h, size_t w) {
+  const Mesh &m = f.mesh;
+  const size_t k = f.targets.size();
+  Lent<uint64_t> targets(f.targets), places(f.places), counts(f.counts), stops(stopped), ends(e), hops(h), wholes(w);
+  const Told told = m.judge(f.source, f.targets, f.places, f.counts);
+  const GustVerdict v = gust_judge(m.kind, m.size, f.source, targets.data(), targets.size(), places.data(), places.size(), counts.data(), counts.size());
+  numbered("judge", m, f.source, v.number, told.number);
+  same("judge: path", m, f.source, v.path, told.path);
+  same("judge: place", m, f.source, v.place, told.place);
+
+  const Told all = m.judge(f.source, f.targets, f.places, f.counts, e < k || h < k || w < k);
+  Words whole;
+  uint64_t count = 0;
+  for (size_t i = 0; !all.number && i < k; ++i) {
+    bool ok = true;
+    for (size_t p = 0; p <= f.counts[i]; ++p)
+      if (std::find(stopped.begin(), stopped.end(), f.places[i * m.width() + p]) != stopped.end()) ok = false;
+    whole.push_back(ok);
+    count += ok;
+  }
+  const GustAnswer a = gust_survivors(m.kind, m.size, f.source, targets.data(), targets.size(), places.data(), places.size(), counts.data(), counts.size(),
+                                      stops.data(), stops.size(), ends.data(), ends.size(), hops.data(), hops.size(), wholes.data(), wholes.size());
+  answered("survivors", m, f.source, a, all, count);
+  if (all.number) {
+    held("survivors: columns", ends.untouched() && hops.untouched() && wholes.untouched(), m, f.source);
+  } else {
+    const Words first(f.counts.begin(), f.counts.begin() + k);
+    held("survivors: columns", ends.holds(f.targets) && hops.holds(first) && wholes.holds(whole), m, f.source);
+  }
+
+  const Bytes sheet = told.number ? Bytes{} : model::sheet(m, f.source, k, f.places, f.counts);
+  for (size_t room : {sheet.size(), sheet.size() + 5, sheet.size() ? sheet.size() - 1 : 0, size_t{0}}) {
+    Lent<uint8_t> out(room);
+    uint64_t number = told.number == 0 || told.number == 8 ? told.number : 35;
+    if (!number && room < sheet.size()) number = 8;
+    answered("writer", m, f.source,
+             gust_write_sheet(m.kind, m.size, f.source, targets.data(), targets.size(), places.data(), places.size(), counts.data(), counts.size(),
+                              out.data(), out.size()),
+             {number, 0, 0}, sheet.size());
+    held("writer: bytes", number ? out.untouched() : out.holds(sheet), m, f.source);
+  }
+  held("judge, survivors, writer: what is read", targets.untouched() && places.untouched() && counts.untouched() && stops.untouched(), m, f.source);
+}
+
+void fans() {
+  for (Mesh mesh : meshes())
+    for (int i = 0; i < (small ? 1 : 20); ++i) {
+      const size_t k = paths_of(mesh);
+      const Fan good = fan(mesh, k);
+      Words stopped;
+      for (uint64_t n = below(5); n--;) stopped.push_back(below(4) ? good.places[below(good.places.size())] : dice());
+      judged(good, stopped, k, k, k);
+      judged(good, {}, k + 2, k + 1, k + 3);
+      judged(good, {good.source}, k, k, k);
+      judged(good, stopped, k - 1, k, k);
+      judged(good, stopped, k, k - 1, k);
+      judged(good, stopped, k, k, k - 1);
+      for (int j = 0; j < 25; ++j) {
+        Fan bad = good;
+        const size_t w = mesh.width();
+        for (int f = 0; f < 1 + (int)below(2); ++f) {
+          const size_t at = below(bad.places.size()), row = below(k);
+          switch (below(12)) {
+            case 0: bad.places[at] = dice(); break;
+            case 1: bad.places[at] = below(mesh.relays()); break;
+            case 2: bad.places[at] = bad.places[below(bad.places.size())]; break;
+            case 3: bad.counts[row] = below(mesh.longest() + 3); break;
+            case 4: bad.counts[row] = dice(); break;
+            case 5: bad.source = below(2) ? below(mesh.relays()) : dice(); break;
+            case 6: bad.targets[row] = below(2) ? below(mesh.relays()) : dice(); break;
+            case 7: bad.places.resize(below(2) ? k * w - 1 : k * w + below(9), 3); break;
+            case 8: bad.counts.resize(below(2) ? k - 1 : k + below(4), 3); break;
+            case 9: bad.mesh = below(2) ? Mesh{mesh.kind, mesh.size + 1} : Mesh{below(4), mesh.size}; break;
+            case 10: bad.targets.clear(); break;
+            case 11: bad.targets.resize(mesh.links() + 1, bad.targets[0]); break;
+          }
+          if (bad.counts.size() < k || bad.places.size() < k * w || bad.targets.size() < k) break;
+        }
+        judged(bad, stopped, k, k, k);
+      }
+    }
+}
+
+// ---- the reader
+
+void read(const Bytes &bytes, size_t p, size_t c, size_t t) {
+  const model::Reading r = model::read(bytes, p, c, t);
+  Lent<uint8_t> in(bytes);
+  Lent<uint64_t> places(p), counts(c), targets(t);
+  const GustReading g = gust_read_sheet(in.data(), in.size(), places.data(), places.size(), counts.data(), counts.size(), targets.data(), targets.size());
+  const bool ok = r.told.number == 0;
+  numbered("reader", r.mesh, r.source, g.number, r.told.number);
+  same("reader: path", r.mesh, r.source, g.path, r.told.path);
+  same("reader: place", r.mesh, r.source, g.place, 0);
+  same("reader: kind", r.mesh, r.source, g.kind, ok ? r.mesh.kind : 0);
+  same("reader: size", r.mesh, r.source, g.size, ok ? r.mesh.size : 0);
+  same("reader: source", r.mesh, r.source, g.source, ok ? r.source : 0);
+  same("reader: paths", r.mesh, r.source, g.paths, ok ? r.k : 0);
+  held("reader: bytes", in.untouched(), r.mesh, r.source);
+  if (ok)
+    held("reader: slices", places.holds(r.places) && counts.holds(r.counts) && targets.holds(r.targets), r.mesh, r.source);
+  else
+    held("reader: slices of a refusal", places.untouched() && counts.untouched() && targets.untouched(), r.mesh, r.source);
+}
+
+// A good sheet damaged at every byte, and cut and drawn out to every length, with and without a length field that fits.
+void damage(const Mesh &mesh, size_t k, bool values) {
+  const Fan f = fan(mesh, k);
+  const Bytes good = model::sheet(mesh, f.source, k, f.places, f.counts);
+  const size_t w = mesh.width(), places = k * w + 3, counts = k + 1, targets = k + 2;
+  read(good, places, counts, targets);
+  read(good, k * w, k, k);
+  read(good, k * w - 1, k, k);
+  read(good, k * w, k - 1, k);
+  read(good, k * w, k, k - 1);
+  read(good, 0, 0, 0);
+  for (size_t at = 0; at < good.size(); ++at) {
+    Bytes bad = good;
+    const int tries = at < 16 && values ? 256 : values ? 12 : 3;
+    for (int i = 0; i < tries; ++i) {
+      const uint8_t fixed[] = {0, 255, 1, static_cast<uint8_t>(good[at] ^ 1), static_cast<uint8_t>(good[at] + 1), static_cast<uint8_t>(good[at] ^ 128)};
+      bad[at] = tries == 256 ? i : values && i < 6 ? fixed[i] : static_cast<uint8_t>(dice());
+      read(bad, places, counts, targets);
+    }
+  }
+  for (size_t length = 0; length <= good.size() + 20; ++length) {
+    Bytes bad = good;
+    bad.resize(length, 0);
+    read(bad, places, counts, targets);
+    if (length >= 4) {
+      for (int i = 0; i < 4; ++i) bad[i] = static_cast<uint8_t>((length - 4) >> (24 - 8 * i));
+      read(bad, places, counts, targets);
+    }
+  }
+}
+
+void sheets() {
+  if (small) {
+    damage({1, 2}, 2, false);
+    damage({2, 1}, 2, false);
+    return;
+  }
+  for (uint64_t n : {1, 2, 3, 5, 8}) damage({1, n}, n, true);
+  for (uint64_t m : {1, 2, 3}) damage({2, m}, m + 1, true);
+  damage({1, 32}, 32, false);
+  damage({2, 4}, 5, false);
+  damage({2, 5}, 6, false);
+  for (int i = 0; i < 20000; ++i) {
+    Bytes noise(below(80));
+    for (auto &b : noise) b = static_cast<uint8_t>(below(4) ? below(3) : dice());
+    if (noise.size() >= 4) {
+      noise[0] = noise[1] = noise[2] = 0;
+      noise[3] = static_cast<uint8_t>(noise.size() - 4);
+    }
+    read(noise, below(50), below(4), below(4));
+  }
+}
+
+// Every call was met with every number that it can tell.
+void all_met() {
+  const std::set<uint64_t> pair{0, 1, 2, 5}, routed{0, 1, 2, 5, 8}, found{0, 1, 2, 3, 4, 5, 6, 7, 8, 20, 21, 22, 23, 24, 25};
+  const std::map<std::string, std::set<uint64_t>> every{
+      {"facts", {0, 1}},         {"linked", pair},    {"next hop", routed}, {"route", routed},      {"distance", {0, 1, 2, 5, 9}},
+      {"plan", {0, 1, 2, 3, 4, 5, 6, 7, 8, 10}}, {"judge", found}, {"survivors", found}, {"writer", {0, 8, 35}},
+      {"reader", {0, 8, 30, 31, 32, 33, 34, 35, 36}}};
+  for (const auto &[call, numbers] : every)
+    if (met[call] != numbers) {
+      std::printf("host: FAILED: %s was met with %zu of %zu numbers\n", call.c_str(), met[call].size(), numbers.size());
+      std::exit(1);
+    }
+}
+
+}  // namespace
+
+int main(int count, char **words) {
+  small = count > 1 && !std::strcmp(words[1], "small");
+  facts();
+  pairs();
+  distances();
+  plans();
+  wrapper();
+  fans();
+  sheets();
+  if (!small) all_met();
+  std::printf("host: %llu comparisons, all the same\n", compared);
+  return 0;
+}
