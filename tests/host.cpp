@@ -289,6 +289,50 @@ void plans() {
   }
 }
 
+// ---- the specification's worked cases, by the numbers that stand there
+
+Words routed(uint64_t kind, uint64_t size, uint64_t s, uint64_t t) {
+  Words way(100);
+  const GustAnswer a = gust_route(kind, size, s, t, way.data(), way.size());
+  way.resize(a.value + 1);
+  return way;
+}
+
+Words links(uint64_t kind, uint64_t size, uint64_t u) {
+  Words all;
+  for (uint64_t v = 0; v < gust_facts(kind, size).relays; ++v)
+    if (gust_linked(kind, size, u, v).value) all.push_back(v);
+  return all;
+}
+
+Bytes planned(uint64_t kind, uint64_t size, uint64_t s, const Words &targets) { return plan({kind, size}, s, bytes_of(targets), 9999); }
+
+uint64_t refused(uint64_t kind, uint64_t size, uint64_t s, const Words &targets) {
+  Bytes asked = bytes_of(targets), out(9999);
+  return gust_plan(kind, size, s, asked.data(), asked.size(), out.data(), out.size());
+}
+
+void cases() {
+  const auto is = [](const char *what, bool ok) { held(what, ok, {0, 0}, 0); };
+  is("case A", links(2, 2, 0) == Words{1, 2, 4});
+  is("case B", links(2, 2, 27) == Words{25, 26, 59});
+  is("case C", routed(1, 4, 0, 11) == Words{0, 1, 3, 11});
+  is("case D", routed(2, 2, 0, 23) == Words{0, 4, 6, 22, 23});
+  is("case E", routed(2, 2, 23, 0) == Words{23, 22, 20, 16, 18, 2, 0});
+  const Words far{0, 1, 1, 2, 3, 2, 4, 3};
+  for (uint64_t t = 0; t < 8; ++t) is("case F", gust_distance(2, 1, 0, t).value == far[t]);
+  const model::Reading g = model::read(planned(1, 2, 0, {3, 1}), 99, 9, 9), h = model::read(planned(2, 1, 0, {4, 6}), 99, 9, 9);
+  is("case G", g.counts == Words{2, 1} && g.places == Words{0, 2, 3, model::kUnused, 0, 1, model::kUnused, model::kUnused});
+  is("case H", h.counts == Words{3, 4} && Words(h.places.begin(), h.places.begin() + 4) == Words{0, 1, 5, 4} &&
+                   Words(h.places.begin() + 11, h.places.begin() + 16) == Words{0, 2, 3, 7, 6});
+  is("case I", planned(1, 1, 0, {1}) == Bytes{0, 0, 0, 22, 1, 1, 1, 1, 0, 0, 0, 0, 0, 0, 0, 0, 0, 1, 0, 0, 0, 0, 0, 0, 0, 1});
+  is("case J", refused(1, 32, 0, {1}) == 0 && refused(1, 33, 0, {1}) == 256 && refused(1, 0, 0, {1}) == 256 && refused(2, 5, 0, {1}) == 0 &&
+                   refused(2, 6, 0, {1}) == 256);
+  is("case K", refused(2, 3, 0, {1, 2, 4, 8}) == 0 && refused(2, 3, 0, {1, 2, 4, 8, 16}) == 4 * 256);
+  is("case L", refused(2, 1, 7, {0}) == 0 && refused(2, 1, 8, {0}) == 2 * 256 && refused(2, 1, 0, {7}) == 0 && refused(2, 1, 0, {8}) == 5 * 256);
+  is("case M", refused(1, 3, 0, {1, 0, 1}) == 6 * 256 + 1);
+}
+
 // The C++ wrapper says the same, and takes an empty span that points nowhere.
 void wrapper() {
   Bytes out(8), none;
@@ -492,6 +536,7 @@ void all_met() {
 
 int main(int count, char **words) {
   small = count > 1 && !std::strcmp(words[1], "small");
+  cases();
   facts();
   pairs();
   distances();
