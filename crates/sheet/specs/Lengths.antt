@@ -10,7 +10,7 @@ use Rattle.paths.specs.Mesh.{Mesh, width}
 use Rattle.paths.specs.Fan.{Fan}
 use Rattle.sheet.specs.Format.{HEAD, pathBytes, pathsBytes, sheetOf, pathsOf}
 use Rattle.sheet.specs.Putting.{path-length, sheet-length}
-use Rattle.sheet.specs.Putted.{pathsFrom-length}
+use Rattle.sheet.specs.PutSheet.{pathsFrom-length}
 use Rattle.sheet.specs.Lent.{Within, within-of}
 
 -- the bytes that paths take

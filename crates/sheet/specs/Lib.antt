@@ -3,7 +3,7 @@ pub mod Format
 pub mod Says
 pub mod Total
 pub mod Putting
-pub mod Putted
+pub mod PutSheet
 pub mod Writing
 pub mod Taken
 pub mod Looking

@@ -15,7 +15,7 @@ use Rattle.mesh.specs.Requests.{Fine}
 use Rattle.judge.specs.Verdict.{numberOf, judgeTold}
 use Rattle.sheet.specs.Format.{HEAD, pathsBytes, sheetOf, kindAt, sizeAt, countAt, sourceAt, pathsAt, placesOf, countsOf, targetsOf, pathsOf}
 use Rattle.sheet.specs.Says.{looked, meshAt, sheetPaths, sheetTargets, sheetPlaces, sheetCounts, readAgainst}
-use Rattle.sheet.specs.Putted.{pathsFrom-length}
+use Rattle.sheet.specs.PutSheet.{pathsFrom-length}
 use Rattle.sheet.specs.Lent.{within-of, places-of, counts-of, targets-of}
 use Rattle.sheet.specs.Lengths.{bytesOf, bytes-most}
 use Rattle.sheet.specs.There.{Fit, Head, pathsAt-there, looked-there, head-there}

@@ -1,6 +1,6 @@
 -- `sheet::put::put_sheet` meets its contract: where it fits, the head and then the paths. Assumes nothing.
 use native.Mathlib.Omega.{arith}
-use Rattle.sheet.specs.Putted.{put-small, paths-asked, put-refused, put-done}
+use Rattle.sheet.specs.PutSheet.{put-small, paths-asked, put-refused, put-done}
 use borrow.Author.Needs.{needs}
 use Rattle.sheet.proofs.put.put_sheet.Statement.{statement}
 use Rattle.sheet.proofs.put.put_sheet.Tie as tie
