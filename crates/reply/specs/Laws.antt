@@ -114,6 +114,8 @@ module _ (kind n s : ℕ) (targets places counts : List ℕ) (p : length places 
         ruled = subst (λ (o : Option Refusal). Ruled m s targets o (fanText k v places₁ counts₁)) (fault e) (record {
           places = places₁;
           counts = counts₁;
+          placed = omega (arith, w .as-long, fine-enough planned-fine .places);
+          counted = omega (arith, w .as-long-counts, fine-enough planned-fine .counts);
           fan = planned-fan;
           text = ap (λ (x : ℕ). fanText k x places₁ counts₁) u;
         });

@@ -1,6 +1,6 @@
 -- What answers a line (`Answers`): `refused 10 0` what is no line, `refused N P` a request against which something stands, and else the text of a fan to the
 -- targets that the line states. `Answered` is what is told and left. Assumes nothing.
-use Prim.Native.Nat.{ℕ}
+use Prim.Native.Nat.{ℕ, _*_, _≤_}
 use mathlib.Core.Path.{_≡_}
 use mathlib.Core.Bool.{Bool, true, false}
 use mathlib.Core.List.{List, _++_}
@@ -19,10 +19,12 @@ use Rattle.line.specs.Text.{Request}
 use Rattle.line.specs.Parse.{asked}
 use Rattle.line.specs.Written.{fanText, refusedText}
 
--- the text of a fan
+-- the text of a fan, whose paths all stand in the places
 pub record FanSaid (m : Mesh) (s : ℕ) (targets said : List ℕ) : Type 0 where
   pub places : List ℕ
   pub counts : List ℕ
+  pub placed : length targets * width m ≤ length places
+  pub counted : length targets ≤ length counts
   pub fan : Fan m s targets places counts
   pub text : said ≡ fanText (length targets) (width m) places counts
 
