@@ -1,7 +1,7 @@
 /* Gustparsley for C and C++: fans of paths over a mesh of relays, next hops, routes, distances, the judge, survivors and sheets.
  *
- * Link with target/staticlib/libhost.a, which ./build makes. Every function here is proved to keep what its comment says. It allocates nothing, keeps
- * nothing between calls and may be called from several threads at once.
+ * Link with target/staticlib/libhost.a, which ./build makes. Every function here is proved to return and to leave in the slices what its
+ * comment says. None allocates or keeps anything between calls, so they may be called from several threads at once.
  *
  * Meshes. kind 1 is the plain cube, sizes 1 to 32 (its dimensions); kind 2 is the two-level mesh, sizes 1 to 5 (its order). Relays are the numbers below
  * `relays`; each has `links` links; a path has at most `longest` hops and takes W = longest + 1 places (gust_facts tells them). Any numbers may be passed:
@@ -49,7 +49,7 @@ enum {
   /* Findings of the judge, each with its path: */
   GUST_TOO_LONG = 20,        /* more hops than the longest path has */
   GUST_NOT_FROM_SOURCE = 21, /* place 0 is not the source */
-  GUST_NOT_LINKED = 22,      /* a relay not linked to the one before, or none; the place of the first such */
+  GUST_NOT_LINKED = 22,      /* a relay not linked to the one before, or out of range; the place of the first such */
   GUST_NOT_TO_TARGET = 23,   /* the last relay is not the target; the place is the hop count */
   GUST_SEEN_AGAIN = 24,      /* a relay that stands earlier on the path or, the source at place 0 excepted, on an earlier path; the first place */
   GUST_NOT_FILLED = 25,      /* an unused place does not hold GUST_UNUSED; the first place */
@@ -125,7 +125,7 @@ GustAnswer gust_write_sheet(uint64_t kind, uint64_t size, uint64_t source, const
 
 /* Reads one sheet, all of `bytes`: fills places, counts and targets with its k paths as said above; elements beyond them stay as they were. Returns kind, size,
  * source and k. Numbers, in this order: 30 (fewer than 16 bytes, or a wrong length field), 31, 32, 33, 8 where there are fewer than k * W places, k counts or
- * k targets; path by path 30 and 34; 36; 35. */
+ * k targets; path by path 30 (its two bytes of hops are missing), 34, 30 (its relays run out); 36; 35. */
 GustReading gust_read_sheet(const uint8_t *bytes, size_t bytes_len, uint64_t *places, size_t places_len, uint64_t *counts, size_t counts_len,
                             uint64_t *targets, size_t targets_len);
 

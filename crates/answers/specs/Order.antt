@@ -1,5 +1,6 @@
 -- The order of the refusals: 10, 1, 9, 2, 3, 4, 5, 6, 7, 11, 8. Of what stands against a request (`Faults`) the first in this order
--- is told (`first`). Each routine states its faults by one of `sizeFaults`, `pairFaults` and `requestFaults`.
+-- is told (`first`). Each routine states its faults by one of `sizeFaults`, `pairFaults` and `requestFaults`; `line` and
+-- `host` add theirs (`lineFaults`, `unreadableToo`).
 use Prim.Native.Nat.{ℕ}
 use mathlib.Core.Bool.{Bool, true, false}
 use mathlib.Core.List.{List}

@@ -1,4 +1,4 @@
-// What comes back: a value, or the reason why there is none, with the document's number and place for each.
+// What comes back: a value, or the reason why there is none, with the specification's number and place for each.
 ghost use mathlib.Core.Path.{_≡_};
 ghost use Rattle.answers.specs.Told as specs;
 
@@ -48,7 +48,7 @@ pub enum Checked {
 }
 
 impl Refusal {
-    // The document's number of the reason: `Refusal::SourceOut.number()` is 2.
+    // The specification's number of the reason: `Refusal::SourceOut.number()` is 2.
     pub fn number(self) -> u64
         ensures { λ r. ⌜ r ≡ specs.number self ⌝ }
     {

@@ -1,4 +1,4 @@
--- The document's case F: the distances of relays 0 to 7 of order 1 from relay 0, from the definition of distance. Assumes nothing.
+-- The specification's case F: the distances of relays 0 to 7 of order 1 from relay 0, from the definition of distance. Assumes nothing.
 use Prim.Native.Nat.{ℕ, zero, suc}
 use mathlib.Core.Path.{_≡_, refl}
 use mathlib.Core.List.{List, [], _∷_}

@@ -1,5 +1,6 @@
 -- Paths of links over any mesh (`Way`), the shortest (`Shortest`), and the distance: the fewest links of a path (`distance`).
--- `shortest-distance`: the length of a shortest path is the distance; `distance-shortest`: the other way round. Assumes nothing.
+-- `shortest-distance`: the length of a shortest path is the distance; `distance-shortest`: the distance is then the length of a
+-- shortest path. `way-more`, `way-map`: a path with one link more, and a path moved. Assumes nothing.
 use Prim.Native.Nat.{ℕ, zero, suc, _≤_, _<_}
 use mathlib.Core.Path.{_≡_, refl, sym, ap, ap₂, _∙_, subst}
 use mathlib.Core.Bool.{Bool, true, _&&_}

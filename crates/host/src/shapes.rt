@@ -1,4 +1,4 @@
-// What the routines give back to C: number, path and place as document 01 tells them, and the values, which are 0 where something stands against the call.
+// What the routines give back to C: number, path and place as the specification tells them, and the values, which are 0 where something stands against the call.
 ghost use mathlib.Core.Path.{_≡_};
 ghost use Rattle.scan.specs.Scan.{pick};
 ghost use Rattle.answers.specs.Told.{answerTold, yesNoTold};

@@ -20,7 +20,7 @@ pub enum Finding {
     TooLong(usize),
     // 21: place 0 is not the source.
     NotFromSource(usize),
-    // 22: a relay that is not linked to the one before, or is none.
+    // 22: a relay that is not linked to the one before, or out of range.
     NotLinked(usize, usize),
     // 23: the last relay is not the target.
     NotToTarget(usize, usize),
@@ -44,7 +44,7 @@ pub enum Verdict {
 }
 
 impl Finding {
-    // The document's number: `Finding::NotLinked(1, 3).number()` is 22.
+    // The specification's number: `Finding::NotLinked(1, 3).number()` is 22.
     pub fn number(self) -> u64
         ensures { λ r. ⌜ r ≡ specs.numberOf (specs.verdictTold (Verdict.Found self)) ⌝ }
     {

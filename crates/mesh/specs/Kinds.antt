@@ -1,5 +1,5 @@
 -- The kinds of mesh, each by what is asked of it at every size: 1 is the plain cube, 2 the two-level mesh. Of any other number no
--- size is known. This is the one place where kinds meet.
+-- size is known. Kinds meet here and in `planner`.
 use Prim.Native.Nat.{ℕ}
 use mathlib.Core.Bool.{Bool, true, false}
 use mathlib.Core.List.{List, []}

@@ -1,4 +1,4 @@
-// A mesh by its kind and size: the facts of a size, links, next hop, distance and plain route over every kind. Kinds meet here alone.
+// A mesh by its kind and size: the facts of a size, links, next hop, distance and plain route over every kind. Kinds meet here and in `planner`.
 mod pairs;
 mod requested;
 

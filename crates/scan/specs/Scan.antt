@@ -1,5 +1,6 @@
 -- A run of numbers i, i + 1, .. searched by a test: the first at which it holds (`seek`), whether there is one (`any`), and at
--- how many of the numbers below n it holds (`count`). What stands in a list, by a test: `among`, `has`.
+-- how many of the numbers below n it holds (`count`). What stands in a list, by a test: `among`, `has`; how many different numbers
+-- stand in it: `different`.
 use Prim.Native.Nat.{ℕ, zero, suc, _+_}
 use mathlib.Core.Bool.{Bool, true, false}
 use mathlib.Core.List.{List, [], _∷_}

@@ -1,4 +1,4 @@
-// Runs of numbers searched.
+// Runs of numbers searched. Inner: called by other crates of the library, which meet the `requires`.
 ghost use mathlib.Core.Path.{_≡_};
 ghost use Prim.Native.Nat.{_+_, _≤_};
 ghost use lib.ListN.{length};

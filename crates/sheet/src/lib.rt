@@ -54,7 +54,7 @@ enum Looked {
 }
 
 impl Flaw {
-    // The document's number: `Flaw::LeftOver.number()` is 36.
+    // The specification's number: `Flaw::LeftOver.number()` is 36.
     pub fn number(self) -> u64
         ensures { λ r. ⌜ r ≡ says.flawNumber self ⌝ }
     {

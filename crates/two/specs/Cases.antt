@@ -1,4 +1,4 @@
--- The document's worked cases of the two-level mesh, from the definitions: A, B (links of two relays of order 2, over all 64), D and E (two
+-- The specification's worked cases of the two-level mesh, from the definitions: A, B (links of two relays of order 2, over all 64), D and E (two
 -- plain routes of order 2). Assumes nothing.
 use Prim.Native.Nat.{ℕ, zero, suc}
 use mathlib.Core.Path.{_≡_, refl}

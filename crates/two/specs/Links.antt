@@ -1,6 +1,6 @@
--- The links of the two-level mesh. `joined-link`, `link-joined`: what the test of a link says of blocks and slots. `linked-sym`: links go
--- both ways. `near`: the m + 1 relays that a relay is linked to, all different (`near-linked`, `linked-near`, `near-differ`); so a relay
--- has exactly m + 1 links (`links-count`). Assumes nothing.
+-- The links of the two-level mesh. `joined-link`, `link-joined`: what the test of a link says of blocks and slots; `linked-link`,
+-- `link-linked`: the same of relays. `linked-sym`: links go both ways. `link-within`: a link leads to a block and a slot of the mesh. How
+-- many links a relay has is told in Near.antt. Assumes nothing.
 use Prim.Native.Nat.{ℕ, _^_, _<_}
 use mathlib.Core.Path.{_≡_, refl, sym, ap, ap₂, _∙_, subst}
 use mathlib.Core.Bool.{Bool, true, false, _&&_, _||_, and-false, or-false}

@@ -1,4 +1,4 @@
-// Runs the two-level mesh: the document's cases L and J, all pairs of order 2, and a spread of pairs of orders 3 to 5. A model outside
+// Runs the two-level mesh: the specification's cases L and J, all pairs of order 2, and a spread of pairs of orders 3 to 5. A model outside
 // Rattle writes the same text (tests/two_model.py).
 ghost use Prim.Native.Nat.{_<_};
 use answers::Answer;

@@ -1,3 +1,5 @@
+-- What the search for a gate slot promises: what may be asked (`Search`), what another target denies of a slot (`Denied`), and that a slot serves
+-- (`Serves`). A candidate that nobody denies serves (`serves`), and one of them does (`some-serves`). Assumes nothing.
 use Prim.Native.Nat.{ℕ, suc, _+_, _-_, _^_, _≤_, _<_}
 use mathlib.Core.Path.{_≡_, refl, sym, subst, _∙_}
 use mathlib.Core.Logic.{_⊎_, inl, inr, ⊎-elim, _≢_}
