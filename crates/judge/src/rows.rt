@@ -8,10 +8,8 @@ ghost use Rattle.paths.specs.Finding as finding;
 ghost use Rattle.mesh.specs.Kinds.{meshOf};
 ghost use Rattle.judge.specs.Needs.{Row, Laid, Step, Held, After};
 use mesh::Mesh;
+use paths::FILLER;
 use scan::Spot;
-
-// What an unused place holds.
-pub const FILLER: u64 = 18446744073709551615;
 
 // What stands at place p of path i, where a path takes w places.
 pub fn relay(w: usize, places: &[u64], i: usize, p: usize) -> u64
