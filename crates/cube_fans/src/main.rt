@@ -57,7 +57,7 @@ fn plan(n: u64, source: u64, targets: &[u64], room: usize, counted: usize)
 {
     let mut places = [77u64; 40];
     let mut counts = [77u64; 40];
-    let checked = cube_fan::plan(
+    let checked = cube_plan::plan(
         Size(n),
         source,
         targets,
@@ -74,7 +74,7 @@ fn through(n: u64, source: u64, doors: u64, targets: &[u64], room: usize, counte
 {
     let mut places = [77u64; 40];
     let mut counts = [77u64; 40];
-    let checked = cube_fan::plan_through(
+    let checked = cube_plan::plan_through(
         Size(n),
         source,
         doors,

@@ -10,7 +10,7 @@ use Rattle.mesh.specs.Kinds.{Kind}
 use Rattle.survivors.specs.Tally.{tallyTold}
 use Rattle.survivors.specs.declared.Tally.{Tally}
 use Rattle.survivors.specs.declared.Tally.the-variants as tally
-use Rattle.entries.specs.Promise.{entryOf, pathEntry, settle, listedTold}
+use Rattle.entries.specs.Says.{entryOf, pathEntry, settle, listedTold}
 use Rattle.entries.specs.declared.Entry.{Entry}
 use Rattle.entries.specs.declared.gathered.Gathered.{Gathered}
 

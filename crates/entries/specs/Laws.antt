@@ -23,15 +23,15 @@ use Rattle.mesh.specs.Kinds.{Kind, kindOf}
 use Rattle.mesh.specs.Laws.{known-small}
 use Rattle.mesh.specs.Says.{requestAgainst, short}
 use Rattle.mesh.specs.Requests.{Fine, request-room, request-fine, request-passed, neither-wanting, room-enough}
-use Rattle.judge.specs.Verdict.{numberOf, rule, judgeAgainst, verdictTold}
+use Rattle.judge.specs.Says.{numberOf, rule, judgeAgainst, verdictTold}
 use Rattle.judge.specs.Numbers.{Numbered, finding-numbered, found-number, refused-number, rule-clean}
 use Rattle.survivors.specs.Tally.{tallied, rulingOf, verdictOf, tallyTold}
-use Rattle.survivors.specs.Promise.{ahead, marks, few, settled, lacking, Survived}
+use Rattle.survivors.specs.Says.{ahead, marks, few, settled, lacking, Survived}
 use Rattle.survivors.specs.Columns.{marks-at, marks-length}
 use Rattle.survivors.specs.Laws.{settled-is, settled-not}
 use Rattle.survivors.specs.declared.Tally.{Tally}
 use Rattle.survivors.specs.declared.Tally.the-variants as tally
-use Rattle.entries.specs.Promise.{entryOf, pathEntry, entries, listedTold, Listed}
+use Rattle.entries.specs.Says.{entryOf, pathEntry, entries, listedTold, Listed}
 use Rattle.entries.specs.Gathered.{capped, takenOf, entryAt, Gathers}
 use Rattle.entries.specs.declared.Entry.{Entry}
 use Rattle.entries.specs.declared.gathered.Gathered.{Gathered}

@@ -1,5 +1,5 @@
 -- What survivors over a list of entries promises, and why it keeps it.
-pub mod Promise
+pub mod Says
 pub mod Gathered
 pub mod Filling
 pub mod Laws

@@ -14,15 +14,15 @@ use Rattle.paths.specs.Mesh.{width}
 use Rattle.paths.specs.Finding.{finding}
 use Rattle.paths.specs.Whole.{whole}
 use Rattle.mesh.specs.Kinds.{Kind}
-use Rattle.judge.specs.Verdict.{verdictTold, judgeAgainst, judgeTold}
+use Rattle.judge.specs.Says.{verdictTold, judgeAgainst, judgeTold}
 use Rattle.judge.specs.Numbers.{finding-numbered, rule-clean}
 use Rattle.survivors.specs.Tally.{tallied, rulingOf, verdictOf}
-use Rattle.survivors.specs.Promise.{few, settled, Survived}
+use Rattle.survivors.specs.Says.{few, settled, Survived}
 use Rattle.survivors.specs.Laws.{settled-is}
 use Rattle.survivors.specs.Unique.{tally-unique}
 use Rattle.survivors.specs.declared.Tally.{Tally}
 use Rattle.survivors.specs.declared.Tally.the-variants as tally
-use Rattle.entries.specs.Promise.{pathEntry, entries, Listed}
+use Rattle.entries.specs.Says.{pathEntry, entries, Listed}
 use Rattle.entries.specs.Filling.{entries-length}
 use Rattle.entries.specs.Laws.{few-alike}
 use Rattle.entries.specs.declared.Entry.{Entry}

@@ -2,7 +2,7 @@
 mod gathered;
 
 ghost use Rattle.mesh.specs.Kinds.{kindOf};
-ghost use Rattle.entries.specs.Promise.{Listed};
+ghost use Rattle.entries.specs.Says.{Listed};
 use mesh::Mesh;
 use survivors::Tally;
 

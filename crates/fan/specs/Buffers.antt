@@ -12,7 +12,7 @@ use borrow.Rule.Slice.PartMut.{putMid, midOf, same-len-mid}
 use Rattle.answers.specs.Told.{numberOf, valueOf, answerTold}
 use Rattle.answers.specs.declared.Answer.{Answer}
 use Rattle.answers.specs.declared.Answer.the-variants as answer
-use Rattle.reply.specs.Replies.{Answered, AnsweredIn, replyRoom}
+use Rattle.reply.specs.Says.{Answered, AnsweredIn, replyRoom}
 
 -- a line end stands at a place
 abbrev pub isEnd : List ℕ → ℕ → Bool

@@ -11,9 +11,9 @@ use Rattle.answers.specs.Told.{Told}
 use Rattle.paths.specs.Mesh.{width}
 use Rattle.mesh.specs.Kinds.{Kind}
 use Rattle.mesh.specs.Says.{factTold}
-use Rattle.judge.specs.Verdict.{Ruling, numberOf, pathOf, placeOf}
+use Rattle.judge.specs.Says.{Ruling, numberOf, pathOf, placeOf}
 use Rattle.survivors.specs.Tally.{Tallied, rulingOf, wholeOf}
-use Rattle.survivors.specs.Promise.{survivorsTold, Survived}
+use Rattle.survivors.specs.Says.{survivorsTold, Survived}
 use Rattle.survivors.specs.declared.Tally.{Tally}
 use Rattle.sheet.specs.Says.{WriteTold, writtenNumber, writtenBytes, tellWritten, writeAgainst, sheet, Wrote, ReadTold, readNumber, readPath, readKind, readSize, readSource, readCount, tellRead, readsAgainst, Read}
 use Rattle.sheet.specs.Format.{kindAt, sizeAt, sourceAt, countAt}

@@ -3,7 +3,7 @@ ghost use mathlib.Core.Path.{_≡_};
 ghost use mathlib.Core.Bool.{false};
 ghost use Rattle.mesh.specs.Kinds.{kindOf};
 ghost use Rattle.mesh.specs.Says.{linkedTold, distanceTold, routeTold, routeLeaves};
-ghost use Rattle.judge.specs.Verdict.{judgeTold};
+ghost use Rattle.judge.specs.Says.{judgeTold};
 ghost use Rattle.host.specs.Shapes as specs;
 use crate::shapes;
 use crate::shapes::GustAnswer;

@@ -2,7 +2,7 @@
 ghost use mathlib.Core.Path.{_≡_};
 ghost use Rattle.scan.specs.Scan.{pick};
 ghost use Rattle.answers.specs.Told.{answerTold, yesNoTold};
-ghost use Rattle.judge.specs.Verdict.{verdictTold};
+ghost use Rattle.judge.specs.Says.{verdictTold};
 ghost use Rattle.survivors.specs.Tally.{tallyTold};
 ghost use Rattle.sheet.specs.Says.{writtenTold, readingTold};
 ghost use Rattle.host.specs.Shapes as specs;

@@ -1,5 +1,5 @@
 -- The judge's verdicts, the laws of its search, and what a verdict means.
-pub mod Verdict
+pub mod Says
 pub mod Needs
 pub mod Rows
 pub mod Looks

@@ -17,7 +17,7 @@ use Rattle.answers.specs.declared.Refusal.{Refusal}
 use Rattle.paths.specs.Mesh.{Mesh, width}
 use Rattle.paths.specs.Fan.{relay, hops}
 use Rattle.paths.specs.Finding.{Finding, clean, found, report, report-at, unlinkedAt, seenAt, unfilledAt, findingOf, findingFrom, finding}
-use Rattle.judge.specs.Verdict.{Ruling, ruling, numberOf, rule, named}
+use Rattle.judge.specs.Says.{Ruling, ruling, numberOf, rule, named}
 use Rattle.judge.specs.declared.Finding as code
 use Rattle.judge.specs.declared.Finding.the-variants.{TooLong, NotFromSource, NotLinked, NotToTarget, SeenAgain, NotFilled}
 

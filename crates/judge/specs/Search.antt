@@ -14,7 +14,7 @@ use Rattle.paths.specs.Mesh.{Mesh, width}
 use Rattle.paths.specs.Fan.{hops}
 use Rattle.paths.specs.Finding.{Finding, clean, found, report, report-at, findingOf, findingFrom, finding}
 use Rattle.paths.specs.Clear.{path-clear}
-use Rattle.judge.specs.Verdict.{named, searchOf}
+use Rattle.judge.specs.Says.{named, searchOf}
 use Rattle.judge.specs.Needs.{Row, Held}
 use Rattle.judge.specs.Rows.{row-below}
 use Rattle.judge.specs.declared.Search.{Search}

@@ -11,7 +11,7 @@ use Rattle.answers.specs.Laws.{refusal, refusal-back, number-some, number-below
 use Rattle.answers.specs.declared.Refusal.{Refusal}
 use Rattle.paths.specs.Finding.{clean}
 use Rattle.mesh.specs.Kinds.{Kind}
-use Rattle.judge.specs.Verdict.{Ruling, ruling, rule, named, verdictTold, judgeTold}
+use Rattle.judge.specs.Says.{Ruling, ruling, rule, named, verdictTold, judgeTold}
 use Rattle.judge.specs.declared.Finding as code
 use Rattle.judge.specs.declared.Finding.the-variants.{TooLong, NotFromSource, NotLinked, NotToTarget, SeenAgain, NotFilled}
 use Rattle.judge.specs.declared.Verdict.{Verdict}

@@ -4,7 +4,7 @@ ghost use lib.ListN.{length};
 ghost use Rattle.paths.specs.Finding as finding;
 ghost use Rattle.mesh.specs.Kinds.{meshOf};
 ghost use Rattle.judge.specs.Needs.{Next, Lent};
-ghost use Rattle.judge.specs.Verdict.{searchOf};
+ghost use Rattle.judge.specs.Says.{searchOf};
 use crate::Finding;
 use crate::Search;
 use crate::rows;

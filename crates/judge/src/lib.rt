@@ -9,7 +9,7 @@ ghost use Prim.Native.Nat.{_≤_};
 ghost use Rattle.scan.specs.Scan.{pick};
 ghost use Rattle.mesh.specs.Kinds.{kindOf, meshOf, known};
 ghost use Rattle.mesh.specs.Says.{short};
-ghost use Rattle.judge.specs.Verdict as specs;
+ghost use Rattle.judge.specs.Says as specs;
 use answers::Checked;
 use answers::Refusal;
 use mesh::Mesh;

@@ -59,7 +59,7 @@ pub fn distance(mesh: Mesh, source: u64, target: u64) -> Answer
         return no_distance(Size(mesh.size));
     }
     if mesh.kind == Mesh::TWO {
-        return hops::distance(Order(mesh.size), source, target);
+        return two_distance::distance(Order(mesh.size), source, target);
     }
     Answer::Refused(Refusal::UnknownSize)
 }

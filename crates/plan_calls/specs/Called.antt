@@ -8,7 +8,7 @@ use Rattle.answers.specs.declared.Refusal.{Refusal}
 use Rattle.answers.specs.declared.Checked.{Checked}
 use Rattle.paths.specs.Mesh.{Mesh}
 use Rattle.requests.specs.Planned.{Planned}
-use Rattle.cube_fan.specs.Promise.{PlannedThrough}
+use Rattle.cube_plan.specs.Says.{PlannedThrough}
 
 -- 0, or the number of the refusal
 abbrev pub numberTold : Option Refusal → ℕ

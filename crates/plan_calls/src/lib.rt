@@ -6,7 +6,7 @@ ghost use Rattle.answers.specs.Told.{against};
 ghost use Rattle.mesh.specs.Kinds.{kindOf, meshOf};
 ghost use Rattle.mesh.specs.Says.{requestAgainst, short};
 ghost use Rattle.cube.specs.Cube.{cube};
-ghost use Rattle.cube_fan.specs.Promise.{faults, badDoors};
+ghost use Rattle.cube_plan.specs.Says.{faults, badDoors};
 ghost use Rattle.plan_calls.specs.Called.{numberTold, Called, CalledThrough};
 use answers::Checked;
 use cube::Size;
@@ -38,7 +38,7 @@ pub extern "C" fn gustparsley_plan_places(
     number(planner::plan(mesh, source, targets, places, counts))
 }
 
-// `cube_fan::plan` in the cube of n dimensions: the cube's planner alone, for its time and its stack.
+// `cube_plan::plan` in the cube of n dimensions: the cube's planner alone, for its time and its stack.
 #[no_mangle]
 pub extern "C" fn gustparsley_cube_plan(
     n: u64,
@@ -49,10 +49,10 @@ pub extern "C" fn gustparsley_cube_plan(
 ) -> u64
     ensures { λ r. ⌜ Called (faults n source (now (targets .entry)) false (now (places .entry)) (now (counts .entry))) (cube n) source (now (targets .entry)) (now (places .entry)) (now (counts .entry)) r (now (places .exit)) (now (counts .exit)) ⌝ }
 {
-    number(cube_fan::plan(Size(n), source, targets, places, counts))
+    number(cube_plan::plan(Size(n), source, targets, places, counts))
 }
 
-// `cube_fan::plan_through` in the cube of n dimensions.
+// `cube_plan::plan_through` in the cube of n dimensions.
 #[no_mangle]
 pub extern "C" fn gustparsley_cube_plan_through(
     n: u64,
@@ -64,5 +64,5 @@ pub extern "C" fn gustparsley_cube_plan_through(
 ) -> u64
     ensures { λ r. ⌜ CalledThrough (faults n source (now (targets .entry)) (badDoors n doors (now (targets .entry))) (now (places .entry)) (now (counts .entry))) n source doors (now (targets .entry)) (now (places .entry)) (now (counts .entry)) r (now (places .exit)) (now (counts .exit)) ⌝ }
 {
-    number(cube_fan::plan_through(Size(n), source, doors, targets, places, counts))
+    number(cube_plan::plan_through(Size(n), source, doors, targets, places, counts))
 }

@@ -18,7 +18,7 @@ use Rattle.mesh.specs.Kinds.{Kind, kindOf, cubes, twos, others, CUBE, TWO}
 use Rattle.mesh.specs.Says.{requestAgainst, short}
 use Rattle.mesh.specs.Laws.{as-cube, as-two, as-other}
 use Rattle.requests.specs.Planned.{Planned, refusal}
-use Rattle.cube_fan.specs.Promise.{faults}
+use Rattle.cube_plan.specs.Says.{faults}
 
 -- the promise over a kind
 abbrev pub Over : (K : Kind) (n s : ℕ) (targets places counts : List ℕ) (r : Checked) (places₁ counts₁ : List ℕ) → Type 0

@@ -22,7 +22,7 @@ pub fn plan(
     ensures { λ r. ⌜ Planned (requestAgainst (kindOf (mesh .kind)) (mesh .size) source (now (targets .entry)) (short (meshOf (mesh .kind) (mesh .size)) (length (now (targets .entry))) (length (now (places .entry))) (length (now (counts .entry))))) (meshOf (mesh .kind) (mesh .size)) source (now (targets .entry)) (now (places .entry)) (now (counts .entry)) r (now (places .exit)) (now (counts .exit)) ⌝ }
 {
     if mesh.kind == Mesh::CUBE {
-        return cube_fan::plan(Size(mesh.size), source, targets, places, counts);
+        return cube_plan::plan(Size(mesh.size), source, targets, places, counts);
     }
     if mesh.kind == Mesh::TWO {
         return two_plan::plan(Order(mesh.size), source, targets, places, counts);

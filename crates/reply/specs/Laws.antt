@@ -25,7 +25,7 @@ use Rattle.mesh.specs.Says.{requestAgainst, short}
 use Rattle.mesh.specs.Requests.{Fine, request-room, request-fine}
 use Rattle.requests.specs.Planned.{Planned}
 use Rattle.line.specs.Written.{fanText, refusedText, refusedRoom, overlong, fanRoom, wanting, writeTold, writeLeaves}
-use Rattle.reply.specs.Replies.{Ruled, faultOf, AnswersTo, Said, replyRoom}
+use Rattle.reply.specs.Says.{Ruled, faultOf, AnswersTo, Said, replyRoom}
 use Rattle.reply.specs.Sizes.{Enough, enough}
 
 -- what a request is answered by

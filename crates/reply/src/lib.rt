@@ -2,7 +2,7 @@
 ghost use Prim.Native.Nat.{_≤_};
 ghost use lib.ListN.{length};
 ghost use Rattle.reply.specs.Laws.{Ruling};
-ghost use Rattle.reply.specs.Replies.{Answered, replyRoom};
+ghost use Rattle.reply.specs.Says.{Answered, replyRoom};
 use answers::Answer;
 use answers::Checked;
 use answers::Refusal;

@@ -18,7 +18,7 @@ use Rattle.paths.specs.Read.{read, fan-lists}
 use Rattle.mesh.specs.Kinds.{Kind}
 use Rattle.mesh.specs.Says.{requestAgainst, short}
 use Rattle.mesh.specs.Requests.{Fine, request-fine, request-passed, room-enough}
-use Rattle.judge.specs.Verdict.{numberOf, rule, judgeAgainst, judgeTold}
+use Rattle.judge.specs.Says.{numberOf, rule, judgeAgainst, judgeTold}
 use Rattle.judge.specs.Numbers.{finding-numbered, rule-zero}
 use Rattle.judge.specs.Rows.{row-below}
 use Rattle.sheet.specs.Lent.{path-at}

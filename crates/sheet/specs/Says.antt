@@ -10,7 +10,7 @@ use Rattle.scan.specs.Scan.{pick}
 use Rattle.paths.specs.Mesh.{Mesh, width}
 use Rattle.mesh.specs.Kinds.{Kind, kindOf, meshOf, known}
 use Rattle.mesh.specs.Says.{short}
-use Rattle.judge.specs.Verdict.{Ruling, numberOf, judgeTold}
+use Rattle.judge.specs.Says.{Ruling, numberOf, judgeTold}
 use Rattle.sheet.specs.Format.{VERSION, HEAD, sheetOf, lengthAt, versionAt, kindAt, sizeAt, countAt, sourceAt, hopsAt, after, pathsAt, placesOf, countsOf, targetsOf, pathsOf}
 use Rattle.sheet.specs.declared.Flaw.{Flaw}
 use Rattle.sheet.specs.declared.Flaw.the-variants as flaw

@@ -8,7 +8,7 @@ use lib.Dec.{eqb, ltb}
 use lib.ListN.{length}
 use lib.Seq.{sets}
 use Rattle.mesh.specs.Kinds.{kindOf, meshOf}
-use Rattle.judge.specs.Verdict.{numberOf, judgeTold}
+use Rattle.judge.specs.Says.{numberOf, judgeTold}
 use Rattle.sheet.specs.Format.{HEAD, hopsAt, after, pathsAt, placesOf, countsOf, targetsOf}
 use Rattle.sheet.specs.Says.{flawed, badHops, looked}
 use Rattle.sheet.specs.declared.Flaw.{Flaw}

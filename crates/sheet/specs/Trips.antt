@@ -12,7 +12,7 @@ use Rattle.octets.specs.Big.{Bytes}
 use Rattle.paths.specs.Mesh.{width}
 use Rattle.mesh.specs.Kinds.{kindOf, meshOf}
 use Rattle.mesh.specs.declared.Mesh as code
-use Rattle.judge.specs.Verdict.{numberOf, judgeTold}
+use Rattle.judge.specs.Says.{numberOf, judgeTold}
 use Rattle.sheet.specs.Format.{HEAD, kindAt, sizeAt, countAt, sourceAt}
 use Rattle.sheet.specs.Says.{settled, flawNumber, wrote, tellWritten, sheet, ruled, writeAgainst, Wrote, reads, tellRead, readsAgainst, sheetPaths, sheetTargets, sheetPlaces, sheetCounts, Read}
 use Rattle.sheet.specs.Unique.{flaw-some, reading-unique, wrote-unique}

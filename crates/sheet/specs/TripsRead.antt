@@ -12,7 +12,7 @@ use Rattle.paths.specs.Mesh.{Mesh, width}
 use Rattle.mesh.specs.Kinds.{kindOf, meshOf, known}
 use Rattle.mesh.specs.Laws.{known-small, known-relays}
 use Rattle.mesh.specs.Requests.{Fine}
-use Rattle.judge.specs.Verdict.{numberOf, judgeTold}
+use Rattle.judge.specs.Says.{numberOf, judgeTold}
 use Rattle.sheet.specs.Format.{HEAD, pathsBytes, sheetOf, kindAt, sizeAt, countAt, sourceAt, pathsAt, placesOf, countsOf, targetsOf, pathsOf}
 use Rattle.sheet.specs.Says.{looked, meshAt, sheetPaths, sheetTargets, sheetPlaces, sheetCounts, readAgainst}
 use Rattle.sheet.specs.PutSheet.{pathsFrom-length}

@@ -9,7 +9,7 @@ use lib.ListN.{length, length-append, List·getD-append}
 use Rattle.octets.specs.Big.{Bytes}
 use Rattle.paths.specs.Mesh.{width}
 use Rattle.mesh.specs.Kinds.{kindOf}
-use Rattle.judge.specs.Verdict.{numberOf, judgeTold}
+use Rattle.judge.specs.Says.{numberOf, judgeTold}
 use Rattle.sheet.specs.Format.{HEAD, sheetOf, kindAt, sizeAt, countAt, sourceAt, pathsOf}
 use Rattle.sheet.specs.Says.{sheet, writeAgainst, meshAt, sheetPaths, sheetTargets, sheetPlaces, sheetCounts, readAgainst}
 use Rattle.sheet.specs.Lent.{Within, places-length, paths-lent}

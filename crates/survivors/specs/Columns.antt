@@ -11,7 +11,7 @@ use lib.Seq.{take-suc, drop-cons, set-at, getD-at}
 use Rattle.scan.specs.Scan.{Spot, found, pick, seek, any, count, among, has}
 use Rattle.paths.specs.Fan.{relay, hops}
 use Rattle.paths.specs.Whole.{stops, broken, whole}
-use Rattle.survivors.specs.Promise.{ahead, marks}
+use Rattle.survivors.specs.Says.{ahead, marks}
 
 -- the first i places of `out` hold `column`, the others what was there
 pub record Filling (column : List ℕ) (i : ℕ) (was out : List ℕ) : Type 0 where

@@ -20,7 +20,7 @@ use Rattle.paths.specs.Whole.{whole}
 use Rattle.mesh.specs.Kinds.{Kind}
 use Rattle.mesh.specs.Says.{short}
 use Rattle.mesh.specs.Requests.{Fine, request-passed, neither-wanting, room-enough}
-use Rattle.judge.specs.Verdict.{ruling, numberOf, rule, verdictTold, judgeAgainst, judgeTold}
+use Rattle.judge.specs.Says.{ruling, numberOf, rule, verdictTold, judgeAgainst, judgeTold}
 use Rattle.judge.specs.Numbers.{finding-numbered, found-number, refused-number, rule-clean}
 use Rattle.judge.specs.Needs.{Row, Held}
 use Rattle.judge.specs.Rows.{row-below}
@@ -28,7 +28,7 @@ use Rattle.judge.specs.declared.Finding as code
 use Rattle.judge.specs.declared.Verdict.{Verdict}
 use Rattle.judge.specs.declared.Verdict.the-variants as verdict
 use Rattle.survivors.specs.Tally.{tallied, verdictOf, countOf, tallyTold}
-use Rattle.survivors.specs.Promise.{ahead, marks, Columns, few, settled, lacking, survivorsTold, Survived}
+use Rattle.survivors.specs.Says.{ahead, marks, Columns, few, settled, lacking, survivorsTold, Survived}
 use Rattle.survivors.specs.Needs.{Filled}
 use Rattle.survivors.specs.declared.Tally.{Tally}
 use Rattle.survivors.specs.declared.Tally.the-variants as tally

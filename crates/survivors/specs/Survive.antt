@@ -15,9 +15,9 @@ use Rattle.paths.specs.Whole.{stops, broken, whole}
 use Rattle.paths.specs.Judged.{clean-fan}
 use Rattle.paths.specs.Survive.{fan-survives, none-survives}
 use Rattle.mesh.specs.Kinds.{Kind}
-use Rattle.judge.specs.Verdict.{verdictTold}
+use Rattle.judge.specs.Says.{verdictTold}
 use Rattle.survivors.specs.Tally.{rulingOf, wholeOf, verdictOf, countOf, tallyTold}
-use Rattle.survivors.specs.Promise.{Survived}
+use Rattle.survivors.specs.Says.{Survived}
 use Rattle.survivors.specs.Columns.{count-most}
 use Rattle.survivors.specs.Laws.{judged-clean, settled-is}
 use Rattle.survivors.specs.declared.Tally.{Tally}

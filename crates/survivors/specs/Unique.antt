@@ -8,7 +8,7 @@ use Rattle.judge.specs.Unique.{verdict-unique}
 use Rattle.judge.specs.declared.Verdict.{Verdict}
 use Rattle.judge.specs.declared.Verdict.the-variants as verdict
 use Rattle.survivors.specs.Tally.{rulingOf, wholeOf, verdictOf, countOf, tallyTold}
-use Rattle.survivors.specs.Promise.{Survived}
+use Rattle.survivors.specs.Says.{Survived}
 use Rattle.survivors.specs.declared.Tally.{Tally}
 use Rattle.survivors.specs.declared.Tally.the-variants as tally
 

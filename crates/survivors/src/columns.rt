@@ -5,7 +5,7 @@ ghost use Rattle.scan.specs.Scan.{pick, count};
 ghost use Rattle.paths.specs.Whole as specs;
 ghost use Rattle.judge.specs.Needs.{Held};
 ghost use Rattle.survivors.specs.Needs.{Copied, Marked, Filled};
-ghost use Rattle.survivors.specs.Promise.{ahead, marks, Columns};
+ghost use Rattle.survivors.specs.Says.{ahead, marks, Columns};
 
 // Whether no relay on path i has stopped.
 fn whole(w: usize, places: &[u64], counts: &[u64], stopped: &[u64], i: usize) -> bool

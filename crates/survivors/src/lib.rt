@@ -2,10 +2,10 @@
 mod columns;
 
 ghost use mathlib.Core.Path.{_≡_};
-ghost use Rattle.judge.specs.Verdict.{numberOf, pathOf, placeOf};
+ghost use Rattle.judge.specs.Says.{numberOf, pathOf, placeOf};
 ghost use Rattle.mesh.specs.Kinds.{kindOf};
 ghost use Rattle.survivors.specs.Tally as specs;
-ghost use Rattle.survivors.specs.Promise as promise;
+ghost use Rattle.survivors.specs.Says as promise;
 use answers::Refusal;
 use judge::Finding;
 use judge::Verdict;

@@ -10,8 +10,8 @@ pub mod Near
 pub mod Moves
 pub mod Ends
 pub mod Steps
-pub mod Told
+pub mod Says
 pub mod Refusals
-pub mod Post
+pub mod Needs
 pub mod Cases
 pub mod Unique

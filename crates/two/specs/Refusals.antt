@@ -18,7 +18,7 @@ use Rattle.answers.specs.declared.Refusal.{Refusal}
 use Rattle.answers.specs.declared.Refusal.the-variants.{UnknownSize, SourceOut, TargetOut, NoRoom}
 use Rattle.two.specs.Two.{known, relays}
 use Rattle.two.specs.Next.{hops, route}
-use Rattle.two.specs.Told.{faults, factTold, routeTold, routeLeaves}
+use Rattle.two.specs.Says.{faults, factTold, routeTold, routeLeaves}
 
 -- the faults by their tests: order, source, target, room
 chosen : (k s t r : Bool) → Option Refusal

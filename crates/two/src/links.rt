@@ -3,7 +3,7 @@ ghost use mathlib.Core.Path.{_≡_};
 ghost use Prim.Native.Nat.{_<_, _≤_};
 ghost use Rattle.answers.specs.Told.{told, yesNoTold};
 ghost use Rattle.two.specs.Two as specs;
-ghost use Rattle.two.specs.Told.{linkedTold};
+ghost use Rattle.two.specs.Says.{linkedTold};
 use crate::parts;
 use crate::parts::Block;
 use crate::parts::Slot;

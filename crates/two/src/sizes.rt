@@ -3,7 +3,7 @@ ghost use mathlib.Core.Path.{_≡_};
 ghost use Prim.Native.Nat.{_+_, _^_, _<_, _≤_};
 ghost use Rattle.answers.specs.Told.{answerTold};
 ghost use Rattle.two.specs.Two as specs;
-ghost use Rattle.two.specs.Told.{factTold};
+ghost use Rattle.two.specs.Says.{factTold};
 use answers::Answer;
 use answers::Refusal;
 

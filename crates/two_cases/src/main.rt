@@ -77,7 +77,7 @@ fn pair(order: Order, source: u64, target: u64) {
     yes_no(two::linked(order, source, target));
     answer(two::next_hop(order, source, target));
     answer(two::seen(order, source, target));
-    answer(hops::distance(order, source, target));
+    answer(two_distance::distance(order, source, target));
     let n = two::route(order, source, target, &mut out);
     answer(n);
     if n.number() == 0 {
@@ -94,7 +94,7 @@ fn parts(order: Order, b: Block, p: Slot, c: Block, q: Slot) {
     answer(two::number(order, b, p));
     answer(two::next_hop_parts(order, b, p, c, q));
     answer(two::seen_parts(order, b, p, c, q));
-    answer(hops::distance_parts(order, b, p, c, q));
+    answer(two_distance::distance_parts(order, b, p, c, q));
     answer(two::route_parts(order, b, p, c, q, &mut out));
     text(b"\n");
 }

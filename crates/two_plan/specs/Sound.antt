@@ -12,7 +12,7 @@ use Rattle.requests.specs.Sound.{Sound}
 use Rattle.two.specs.Two.{two}
 use Rattle.two_write.specs.Rows.{Ready, Drawn}
 use Rattle.two_round.specs.Trip.{Trip}
-use Rattle.two_draw.specs.General.{General}
+use Rattle.two_general.specs.General.{General}
 use Rattle.two_plan.specs.Home.{Filling, Home}
 
 -- a sound request, and room for its paths

@@ -54,14 +54,14 @@ fn lay(m: u32, source: u64, targets: &[u64], w: usize, places: &mut [u64], count
         return;
     }
     if targets.len() == m as usize + 1 {
-        if all_home(grid::pow(m), source, targets) {
+        if all_home(cube_rows::pow(m), source, targets) {
             two_round::plan(m, source, targets, w, places, counts);
             return;
         }
-        two_draw::general(m, source, targets, w, places, counts);
+        two_general::general(m, source, targets, w, places, counts);
         return;
     }
-    two_draw::general(m, source, targets, w, places, counts);
+    two_general::general(m, source, targets, w, places, counts);
 }
 
 // A fan in the two-level mesh from the source to the targets, in their order. Path i stands from the place i * W on, where W is `order.places()`, source

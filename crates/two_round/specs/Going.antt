@@ -4,7 +4,7 @@ use mathlib.Core.Path.{_≡_, sym, subst}
 use mathlib.Core.List.{List}
 use native.Mathlib.Omega.{arith}
 use lib.ListN.{length}
-use Rattle.doors.specs.Doors.{Doors}
+use Rattle.cube_math.specs.Doors.{Doors}
 use Rattle.two_write.specs.Row.{hops}
 use Rattle.two_rows.specs.Rows.{at, Gives}
 use Rattle.two.specs.Two.{two, blockOf, slotOf}

@@ -12,15 +12,15 @@ use lib.Seq.{getD-set-same, getD-set-other}
 use borrow.Author.Count.{below-more}
 use Rattle.paths.specs.Lists.{in-at}
 use Rattle.paths.specs.Mesh.{width}
-use Rattle.doors.specs.Doors.{Doors}
-use Rattle.doors.specs.Plain.{bit-full, full-below}
+use Rattle.cube_math.specs.Doors.{Doors}
+use Rattle.cube_math.specs.Plain.{bit-full, full-below}
 use Rattle.two_write.specs.Row.{hops}
 use Rattle.two_rows.specs.Rows as rows
 use Rattle.two_rows.specs.Rows.{at, Gives}
 use Rattle.two.specs.Two.{two, blockOf, slotOf}
-use Rattle.two_fan.specs.Sort.{Ask}
-use Rattle.two_fan.specs.Numbers.{ask-numbers}
-use Rattle.two_fan.specs.Whole.{round-request}
+use Rattle.two_math.specs.Sort.{Ask}
+use Rattle.two_math.specs.Numbers.{ask-numbers}
+use Rattle.two_math.specs.Whole.{round-request}
 use Rattle.two_write.specs.Blocks.{walk-below}
 use Rattle.two_write.specs.Rows.{Ready}
 use Rattle.two_write.specs.Slots.{Below}

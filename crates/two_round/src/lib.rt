@@ -133,7 +133,7 @@ pub fn plan(m: u32, source: u64, targets: &[u64], w: usize, places: &mut [u64], 
     let s0 = two::block_of(order, source).0;
     let p0 = two::slot_of(order, source).0;
     let to = slots_of(order, targets);
-    let size = grid::pow(m);
+    let size = cube_rows::pow(m);
     let mut grid = [0u64; 560];
     two_rows::plan_rows(size - 1, p0, 0, size - 1, to, &mut grid);
     let s = find(&grid, m as usize, to[m as usize]);

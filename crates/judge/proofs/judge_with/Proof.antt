@@ -9,7 +9,7 @@ use Rattle.mesh.specs.Kinds.{kindOf, meshOf}
 use Rattle.scan.specs.Scan.{pick}
 use Rattle.mesh.specs.Says.{short}
 use Rattle.mesh.specs.Requests.{Fine, checked-fine, request-refused, request-short, request-granted, neither-wanting, room-enough}
-use Rattle.judge.specs.Verdict.{rule, searchOf, judgeTold}
+use Rattle.judge.specs.Says.{rule, searchOf, judgeTold}
 use borrow.Author.Needs.{needs}
 use Rattle.judge.proofs.judge_with.Statement.{statement}
 use Rattle.judge.proofs.judge_with.Tie as tie

@@ -1,6 +1,6 @@
 -- `sheet::write` meets its contract: what the judge says, else the sheet. Assumes nothing.
 use mathlib.Core.Path.{_≡_, sym, ap, _∙_}
-use Rattle.judge.specs.Verdict.{numberOf}
+use Rattle.judge.specs.Says.{numberOf}
 use Rattle.sheet.specs.Says.{ruled}
 use Rattle.sheet.specs.Writing.{fan-sheeted, wrote-fan, wrote-short, wrote-not}
 use borrow.Author.Needs.{needs}

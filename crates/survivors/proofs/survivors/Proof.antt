@@ -1,8 +1,8 @@
 -- `survivors::survivors` meets its contract: what the judge finds, else the columns of the fan. Assumes nothing.
 use mathlib.Core.Path.{_≡_, sym, ap, _∙_}
 use Rattle.mesh.specs.Kinds.{kindOf}
-use Rattle.judge.specs.Verdict.{Ruling, ruling, verdictTold, judgeTold}
-use Rattle.survivors.specs.Promise.{lacking}
+use Rattle.judge.specs.Says.{Ruling, ruling, verdictTold, judgeTold}
+use Rattle.survivors.specs.Says.{lacking}
 use Rattle.survivors.specs.Laws.{found-survived, refused-survived, judged-known, fan-ready, fan-survived}
 use borrow.Author.Needs.{needs}
 use Rattle.survivors.proofs.survivors.Statement.{statement}

@@ -1,6 +1,6 @@
 -- `mesh::pairs::distance` meets its contract: each kind answers for its own pairs. Assumes nothing.
 use mathlib.Core.Path.{_∙_}
-use Rattle.hops.specs.Told as hops
+use Rattle.two_distance.specs.Says as hops
 use Rattle.mesh.specs.Kinds.{Kind}
 use Rattle.mesh.specs.Laws.{as-cube, as-two, as-other, cube-distance}
 use Rattle.mesh.specs.Says.{distanceTold}

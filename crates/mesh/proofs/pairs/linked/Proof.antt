@@ -1,6 +1,6 @@
 -- `mesh::pairs::linked` meets its contract: each kind answers for its own pairs. Assumes nothing.
 use mathlib.Core.Path.{_∙_}
-use Rattle.two.specs.Told as two
+use Rattle.two.specs.Says as two
 use Rattle.mesh.specs.Kinds.{Kind}
 use Rattle.mesh.specs.Laws.{as-cube, as-two, as-other}
 use Rattle.mesh.specs.Says.{linkedTold}

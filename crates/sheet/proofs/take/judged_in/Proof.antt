@@ -2,7 +2,7 @@
 use mathlib.Core.Path.{ap, _∙_}
 use native.Mathlib.Omega.{arith}
 use lib.ListN.{length, length-take}
-use Rattle.judge.specs.Verdict.{numberOf}
+use Rattle.judge.specs.Says.{numberOf}
 use Rattle.sheet.specs.Taking.{judged-sheet}
 use borrow.Author.Needs.{needs}
 use Rattle.sheet.proofs.take.judged_in.Statement.{statement}

@@ -3,7 +3,7 @@ use Prim.Native.Nat.{ℕ, _-_, _≤_}
 use mathlib.Core.Path.{_≡_, _∙_, ap}
 use native.Mathlib.Omega.{arith}
 use lib.ListN.{length, take}
-use Rattle.survivors.specs.Promise.{ahead}
+use Rattle.survivors.specs.Says.{ahead}
 use Rattle.survivors.specs.Columns.{Filling, filling-starts, copied-more}
 use borrow.Author.Needs.{needs}
 use Rattle.survivors.proofs.columns.copy.Statement.{statement}

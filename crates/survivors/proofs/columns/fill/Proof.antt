@@ -4,7 +4,7 @@ use mathlib.Core.Path.{_∙_, ap}
 use mathlib.Core.List.{List}
 use lib.ListN.{length}
 use lib.Seq.{take-length}
-use Rattle.survivors.specs.Promise.{ahead}
+use Rattle.survivors.specs.Says.{ahead}
 use borrow.Author.Needs.{needs}
 use Rattle.survivors.proofs.columns.fill.Statement.{statement}
 use Rattle.survivors.proofs.columns.fill.Tie as tie

@@ -7,7 +7,7 @@ use native.Mathlib.Omega.{arith}
 use lib.ListN.{length}
 use Rattle.scan.specs.Scan.{pick, count}
 use Rattle.paths.specs.Whole.{whole}
-use Rattle.survivors.specs.Promise.{ahead, marks}
+use Rattle.survivors.specs.Says.{ahead, marks}
 use Rattle.survivors.specs.Columns.{Filling, marked-start, marked-more, count-start, count-more, count-most}
 use borrow.Author.Needs.{needs}
 use Rattle.survivors.proofs.columns.mark.Statement.{statement}

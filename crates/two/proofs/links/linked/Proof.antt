@@ -6,7 +6,7 @@ use borrow.Author.Needs.{needs}
 use Rattle.answers.specs.Told.{told, against}
 use Rattle.two.specs.Two.{linked}
 use Rattle.two.specs.Parts.{known-bounds}
-use Rattle.two.specs.Told.{faults, linkedTold}
+use Rattle.two.specs.Says.{faults, linkedTold}
 use Rattle.two.specs.Refusals.{fine, tell-value, tell-refusal}
 use Rattle.two.proofs.links.linked.Statement.{statement}
 use Rattle.two.proofs.links.linked.Tie as tie

@@ -3,7 +3,7 @@ use mathlib.Core.Path.{_∙_, sym, ap}
 use mathlib.Core.Bool.{false}
 use borrow.Author.Needs.{needs}
 use Rattle.answers.specs.Told.{against}
-use Rattle.two.specs.Told.{faults, numberTold}
+use Rattle.two.specs.Says.{faults, numberTold}
 use Rattle.two.specs.Refusals.{tell-value, tell-refusal}
 use Rattle.two.proofs.parts.number.Statement.{statement}
 use Rattle.two.proofs.parts.number.Tie as tie

@@ -7,7 +7,7 @@ use borrow.Author.Needs.{needs}
 use Rattle.answers.specs.Told.{told, against}
 use Rattle.two.specs.Two.{blockOf, slotOf}
 use Rattle.two.specs.Parts.{known-bounds}
-use Rattle.two.specs.Told.{faults, splitTold}
+use Rattle.two.specs.Says.{faults, splitTold}
 use Rattle.two.specs.Refusals.{fine, tell-value, tell-refusal}
 use Rattle.two.proofs.parts.split.Statement.{statement}
 use Rattle.two.proofs.parts.split.Tie as tie

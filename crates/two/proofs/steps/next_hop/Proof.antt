@@ -5,7 +5,7 @@ use mathlib.Core.Option.{none}
 use borrow.Author.Needs.{needs}
 use Rattle.answers.specs.Told.{told, against}
 use Rattle.two.specs.Next.{next}
-use Rattle.two.specs.Told.{faults, nextTold}
+use Rattle.two.specs.Says.{faults, nextTold}
 use Rattle.two.specs.Refusals.{fine, tell-value, tell-refusal}
 use Rattle.two.proofs.steps.next_hop.Statement.{statement}
 use Rattle.two.proofs.steps.next_hop.Tie as tie

@@ -5,7 +5,7 @@ use mathlib.Core.Option.{none}
 use borrow.Author.Needs.{needs}
 use Rattle.answers.specs.Told.{told, against}
 use Rattle.two.specs.Seen.{seen}
-use Rattle.two.specs.Told.{faults, seenTold}
+use Rattle.two.specs.Says.{faults, seenTold}
 use Rattle.two.specs.Refusals.{fine, tell-value, tell-refusal}
 use Rattle.two.proofs.views.seen.Statement.{statement}
 use Rattle.two.proofs.views.seen.Tie as tie
