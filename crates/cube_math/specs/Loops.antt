@@ -8,7 +8,7 @@ use native.Mathlib.Omega.{arith}
 use lib.Bits.{bitOr}
 use lib.Count.{ones}
 use Rattle.bits.specs.Bit.{bit, flip}
-use Rattle.bits.specs.Laws.{bit-none, bit-pow-same, bit-pow-other, clash, flip-same, flip-other, ones-clear, ones-zero, ones-pow}
+use Rattle.bits.specs.Laws.{bit-none, bit-pow-same, bit-pow-other, clash, flip-other, ones-clear, ones-zero, ones-pow}
 use Rattle.cube_math.specs.Doors.{Door, Doors}
 use Rattle.cube_math.specs.Paths.{same-or, flip-eq, bit-not-one}
 use Rattle.cube_math.specs.Masks.{less}
@@ -32,10 +32,6 @@ plus-or a i = record {
   only = λ c o. ⊎-elim inl (λ p. inr (⊎-elim (λ e. e) (λ ne. absurd (clash (bit-pow-other c i ne) p)) (same-or c i))) (or-on c a (2 ^ i) o);
   few = omega (arith, ones-or a (2 ^ i), ones-pow i);
 }
-
--- the bits of flip m j, for a member j
-here : (m j : ℕ) → bit j m ≡ 1 → bit j (flip m j) ≡ 0
-here m j o = flip-same m j ∙ ap (λ (x : ℕ). 1 - x) o
 
 -- out of flip m j: out of m, or j
 gone : (m j c : ℕ) → bit c (flip m j) ≡ 0 → (c ≡ j) ⊎ (bit c m ≡ 0)

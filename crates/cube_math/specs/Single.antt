@@ -1,15 +1,15 @@
--- One path through a given door, built from its end (`single`); what a loop that builds it keeps (`Tail`, `tail-more`, `tail-way`). Assumes nothing.
+-- One path through a given door, built from its end: what a loop that builds it keeps (`Tail`, `tail-more`, `tail-way`); and families of no path and of
+-- one (`nothing`, `alone`). Assumes nothing.
 use Prim.Native.Nat.{ℕ, zero, suc, _+_, _-_, _≤_, _<_}
 use mathlib.Core.Path.{_≡_, refl, sym, ap, _∙_, subst}
 use mathlib.Core.Logic.{_⊎_, inl, inr, ⊎-elim, _≢_}
 use mathlib.Core.List.{List, [], _∷_}
 use native.Mathlib.Omega.{arith}
-use native.Mathlib.Decide.{ℕ-discrete}
 use lib.ListN.{length}
 use lib.Bits.{bitXor, differ}
 use lib.Count.{ones}
 use Rattle.bits.specs.Bit.{bit, flip}
-use Rattle.bits.specs.Laws.{bit-lt, bit-xor, flip-same, flip-other, flip-flip, flip-xor, ones-clear, ones-none, ones-zero, xor-zero-eq}
+use Rattle.bits.specs.Laws.{bit-lt, bit-none, bit-xor, clash, flip-other, flip-flip, flip-xor, ones-clear, ones-none, ones-zero, xor-zero-eq}
 use Rattle.cube_math.specs.Doors.{In, Fresh, Walk, Way, Doors}
 use Rattle.cube_math.specs.Paths.{same-or, flip-turns, off-on}
 use Rattle.cube_math.specs.Masks.{some-bit, ones-mono}
@@ -76,20 +76,6 @@ tail-more {free} {goal} {i} {d} {u} {l} c t ne e =
       inside = λ k q. ⊎-elim (λ z. subst (λ (y : ℕ). bit y free ≡ 1) (sym z) (t .inside c ne)) (λ z. t .inside k (λ y. q (flip-other u c k z ∙ y))) (same-or k c);
     }
 
--- from the target itself: first the bit i, if it is not yet that of `goal`
-pub tail-start : (free goal i d : ℕ) → ((c : ℕ) → bit c d ≢ bit c goal → bit c free ≡ 1)
-    → (u : ℕ) × (l : List ℕ) × (bit i u ≡ bit i goal) × Tail free goal i d u l
-tail-start free goal i d h = start (ℕ-discrete (bit i d) (bit i goal))
-  where
-    start : Dec (bit i d ≡ bit i goal) → (u : ℕ) × (l : List ℕ) × (bit i u ≡ bit i goal) × Tail free goal i d u l
-    start (yes e) = (d, [], e, tail-none free goal i d h)
-    start (no ne) =
-        let e : bit i (flip d i) ≡ bit i goal = turns (bit i d) (bit i goal) (flip-same d i) (bit-lt i d) (bit-lt i goal) ne in
-        (flip d i, d ∷ [], e, tail-more i (tail-none free goal i d h) ne e)
-      where
-        turns : {z : ℕ} (x y : ℕ) → z ≡ 1 - x → x < 2 → y < 2 → x ≢ y → z ≡ y
-        turns x y e h g ne = omega arith
-
 -- then every other
 pub tail-all : {free goal i d : ℕ} (r u : ℕ) (l : List ℕ) → rank goal u ≡ r → bit i u ≡ bit i goal → Tail free goal i d u l
     → (q : List ℕ) × Tail free goal i d goal q
@@ -123,13 +109,12 @@ pub inside-flip : (free s i d : ℕ) → bit i free ≡ 1 → ((c : ℕ) → bit
 inside-flip free s i d o h c ne =
     ⊎-elim (λ e. subst (λ (y : ℕ). bit y free ≡ 1) (sym e) o) (λ z. h c (λ e. ne (e ∙ sym (flip-other s i c z)))) (same-or c i)
 
-pub single : (n free s shut d i : ℕ) → bit i free ≡ 1 → bit i shut ≡ 0 → s ≢ d → ones free ≡ n → ((c : ℕ) → bit c d ≢ bit c s → bit c free ≡ 1)
-    → (l : List ℕ) × Way n free s shut d l
-single n free s shut d i o z ne e h =
-    let inside = inside-flip free s i d o h in
-    let (u, p, b, t) = tail-start free (flip s i) i d inside in
-    let (q, w) = tail-all (rank (flip s i) u) u p refl b t in
-    (flip s i ∷ q, tail-way n shut w o z ne (omega (arith, rank-le free (flip s i) d inside)))
+-- a family of no path
+pub nothing : {n free s shut m : ℕ} {to : ℕ → ℕ} (hops : ℕ → List ℕ) → m ≡ 0 → Doors n free s shut m to hops
+nothing hops z = record {
+  each = λ j o. absurd (clash (ap (bit j) z ∙ bit-none j) o);
+  apart = λ i j o. absurd (clash (ap (bit i) z ∙ bit-none i) o);
+}
 
 -- a family of one path
 pub alone : {n free s shut m : ℕ} {to : ℕ → ℕ} {hops : ℕ → List ℕ} (j : ℕ) → ((c : ℕ) → bit c m ≡ 1 → c ≡ j)

@@ -13,12 +13,11 @@ use Rattle.bits.specs.Laws.{bit-none, clash, flip-other, ones-clear, ones-none,
 use Rattle.cube_math.specs.Doors.{Doors}
 use Rattle.cube_math.specs.Paths.{same-or, off-on, bit-not-one}
 use Rattle.cube_math.specs.Masks.{less}
-use Rattle.cube_math.specs.Single.{alone}
+use Rattle.cube_math.specs.Single.{alone, nothing}
 use Rattle.cube_math.specs.Split.{Sides}
 use Rattle.cube_math.specs.Request.{Request, Settled, request-same, doors-same, Without, without-flip, near-request}
 use Rattle.cube_math.specs.Choose.{or-on, or-left, or-right, ones-less, less-on, less-or, ones-or, ones-some}
 use Rattle.cube_math.specs.Loops.{Sorting, sorted-request, sorted-settled, sorted-all, brought-all}
-use Rattle.cube_math.specs.Whole.{nothing}
 use Rattle.cube_rows.specs.Grid.{hops, target, Keeps, keeps-none, keeps-more, keeps-one, keeps-part, keeps-rest, Rows, rows-part, New, new-same, new-kept}
 use Rattle.cube_moves.specs.Lone.{Lone, Alone}
 use Rattle.cube_moves.specs.Halves.{Divided, low-other, low-held}

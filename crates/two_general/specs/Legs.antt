@@ -21,7 +21,6 @@ use Rattle.two_math.specs.Through.{Crosses}
 use Rattle.two_math.specs.Assemble.{most}
 use Rattle.two_math.specs.Plan.{Steps, Role, Taken}
 use Rattle.two_math.specs.Gates.{Near}
-use Rattle.two_math.specs.General.{some-steps}
 use Rattle.two_math.specs.Crowd.{met, met-gate}
 use Rattle.two_math.specs.Loops.{last, crosses-last, walk-last}
 use Rattle.two_choose.specs.declared.Choice.{Choice}
@@ -38,6 +37,11 @@ use Rattle.two_general.specs.Draft.{State, way-of, way-short, single-on,
 take-none : (l : List ℕ) → take 0 l ≡ []
 take-none [] = refl
 take-none (x ∷ l) = refl
+
+-- the tail through a gate
+some-steps : (m q p : ℕ) → Near m p q → (tail : List ℕ) × Steps m q p tail
+some-steps m q p (inl e) = (q ∷ [], inl (e, refl))
+some-steps m q p (inr (h, l, e)) = (q ∷ p ∷ [], inr (h, l, sym (ap (λ (y : ℕ). flip y h) e ∙ flip-flip p h), refl))
 
 -- slots of a walk in a block
 walk-slots : (m u t : ℕ) (l : List ℕ) → u < 2 ^ m → Walk (2 ^ m - 1) u t l → (x : ℕ) → In x l → x < 2 ^ m

@@ -1,4 +1,4 @@
--- The path through the door p0, if it ends in a crowd, is taken over by a target of that crowd (`take-over`). Assumes nothing.
+-- The path through the door p0, if it ends in a crowd, is taken over by a target of that crowd (`met`, `met-gate`). Assumes nothing.
 use Prim.Native.Nat.{ℕ, _+_, _-_, _^_, _≤_, _<_}
 use mathlib.Core.Path.{_≡_, refl, sym, ap, _∙_, subst}
 use mathlib.Core.Logic.{_⊎_, inl, inr, ⊎-elim, _≢_}
@@ -9,26 +9,11 @@ use Rattle.bits.specs.Bit.{bit, flip}
 use Rattle.bits.specs.Laws.{flip-flip}
 use Rattle.cube_math.specs.Doors.{In, Fresh, Walk, Doors}
 use Rattle.cube_math.specs.Paths.{same-or, not-cons}
-use Rattle.cube_math.specs.Plain.{bit-full, full-below}
-use Rattle.two_math.specs.Relays.{Relay, inside, in-append, walk-more, fresh-more}
-use Rattle.two_math.specs.Through.{stroll, Crosses}
+use Rattle.cube_math.specs.Plain.{bit-full}
+use Rattle.two_math.specs.Relays.{Relay, in-append, walk-more, fresh-more}
+use Rattle.two_math.specs.Through.{Crosses}
 use Rattle.two_math.specs.Plan.{Taken}
-use Rattle.two_math.specs.Gates.{Near, find}
-
--- a walk over blocks up to the door of its last block, `enter`
-pub up-to : (m b p g : ℕ) (r : List ℕ) → Walk (2 ^ (2 ^ m) - 1) b g r → p < 2 ^ m → (c : ℕ) (l : List ℕ) → r ≡ c ∷ l → c ≡ flip b p
-    → (enter : ℕ) × (route : List ℕ) × (o : List Relay) × (enter < 2 ^ m) × (r ≡ route ++ (g ∷ [])) × Crosses m b p (flip g enter) enter route o
-up-to m b p g [] w hp c l e f = let z : _≡_ {A = ℕ} 0 1 = cc in absurd (omega arith)
-up-to m b p g (v ∷ []) w hp c l e f =
-    let first : v ≡ c = cc in
-    let at : g ≡ flip b p = sym (w .3) ∙ first ∙ f in
-    (p, [], [], hp, ap (λ (y : ℕ). y ∷ []) (w .3), (sym (ap (λ (y : ℕ). flip y p) at ∙ flip-flip b p), refl, refl))
-up-to m b p g (v ∷ u ∷ r) w hp c l e f =
-    let first : v ≡ c = cc in
-    let d : w .3 .0 < 2 ^ m = full-below (2 ^ m) (w .3 .0) (w .3 .1) in
-    let s = stroll m p (w .3 .0) hp d in
-    let t = up-to m v (w .3 .0) g (u ∷ r) (w .3) d u r refl (w .3 .2) in
-    (t .0, v ∷ t .1, inside v (p ∷ s .0) ++ t .2, t .3, ap (λ (y : List ℕ). v ∷ y) (t .4), (w .3 .0, s .0, t .2, first ∙ f, s .1, t .5, refl))
+use Rattle.two_math.specs.Gates.{Near}
 
 -- a walk cut at the first relay of which A holds
 pub record Cut (A : ℕ → Type 0) (free u : ℕ) (l : List ℕ) (x : ℕ) (cut : List ℕ) : Type 0 where
@@ -92,17 +77,6 @@ module _ (m s0 p0 k : ℕ) (tb tp : ℕ → ℕ) (gated rows : ℕ) (gate ends :
   -- a gated target of b has its slot or its gate slot at x
   abbrev pub Hit : ℕ → ℕ → Type 0
   Hit b x = (i : ℕ) × (i < k) × ((bit i gated ≡ 1) × (tb i ≡ b) × ((x ≡ gate i) ⊎ (x ≡ tp i)))
-
-  pub hit? : (b x : ℕ) → Hit b x ⊎ (Hit b x → ⊥)
-  hit? b x = ⊎-elim inl (λ none. inr (λ h. none (h .0) (h .1) (h .2)))
-      (find (λ i. (bit i gated ≡ 1) × (tb i ≡ b) × ((x ≡ gate i) ⊎ (x ≡ tp i))) (λ i. three (same-or (bit i gated) 1) (same-or (tb i) b) (same-or x (gate i)) (same-or x (tp i))) k)
-    where
-      three : {A B C D : Type 0} → A ⊎ (A → ⊥) → B ⊎ (B → ⊥) → C ⊎ (C → ⊥) → D ⊎ (D → ⊥) → (A × B × (C ⊎ D)) ⊎ (A × B × (C ⊎ D) → ⊥)
-      three (inr a) b c d = inr (λ z. a (z .0))
-      three (inl a) (inr b) c d = inr (λ z. b (z .1))
-      three (inl a) (inl b) (inl c) d = inl (a, b, inl c)
-      three (inl a) (inl b) (inr c) (inl d) = inl (a, b, inr d)
-      three (inl a) (inl b) (inr c) (inr d) = inr (λ z. ⊎-elim c d (z .2))
 
   -- what a target t of b, whose slot or gate slot is met first, at x, has then
   module _ (c r : ℕ) (o : bit c rows ≡ 1) (e : ends c ≡ tb r) (enter : ℕ) (route : List ℕ) (body : List Relay) (splits : hops c ≡ route ++ (ends c ∷ []))
@@ -179,16 +153,3 @@ module _ (m s0 p0 k : ℕ) (tb tp : ℕ → ℕ) (gated rows : ℕ) (gate ends :
         by : x ≢ tp t → Near m (tp t) (gate t) → (tail : List ℕ) × Ends-with tail
         by ne (inl z) = absurd (⊎-elim (λ w. ne (w ∙ z)) ne at)
         by ne (inr z) = (enter ∷ (cut ++ (tp t ∷ [])), met-gate ne (z .0) (z .1) (z .2))
-
-  -- the row c leaves by p0 and ends in the block of r, a gated target
-  pub take-over : (c r : ℕ) → bit c rows ≡ 1 → r < k → bit r gated ≡ 1 → ends c ≡ tb r → (l : List ℕ) → hops c ≡ flip s0 p0 ∷ l → p0 < 2 ^ m
-      → (t : ℕ) × (t < k) × (bit t gated ≡ 1) × (tb t ≡ tb r) × (route : List ℕ) × (tail : List ℕ) × (body : List Relay)
-      × Taken m s0 p0 k tb tp gated rows t gate ends hops t p0 c route tail body
-  take-over c r o h g e l first hp =
-      let w = fan .each c o in
-      let u = up-to m s0 p0 (ends c) (hops c) (w .walk) hp (flip s0 p0) l first refl in
-      let s = stroll m (u .0) (tp r) (u .3) (slots r h) in
-      let x = first-hit (Hit (tb r)) (hit? (tb r)) (2 ^ m - 1) (u .0) (tp r) (s .0) (s .1 .walk) (s .1 .fresh) (r, h, (g, refl, inr refl)) in
-      let t = x .2 .hit in
-      let z = ends-with c r o e (u .0) (u .1) (u .2) (u .4) (u .5) (s .0) (s .1 .short) (x .0) (x .1) (x .2) (t .0) (t .1) (t .2 .0) (t .2 .1) (t .2 .2) in
-      (t .0, t .1, t .2 .0, t .2 .1, u .1, z .0, u .2, z .1)

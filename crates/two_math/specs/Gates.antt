@@ -6,11 +6,11 @@ use native.Mathlib.Omega.{arith}
 use native.Mathlib.Decide.{ℕ-discrete}
 use lib.Count.{ones-ones}
 use Rattle.bits.specs.Bit.{bit, flip}
-use Rattle.bits.specs.Laws.{bit-cases, bit-none, clash, lt-or, flip-other, flip-flip, ones-clear}
+use Rattle.bits.specs.Laws.{bit-cases, clash, lt-or, flip-other, flip-flip, ones-clear}
 use Rattle.cube_math.specs.Paths.{same-or, flip-turns, flip-moves, flip-eq}
-use Rattle.cube_math.specs.Masks.{left-over, ones-mono, mask-ind}
+use Rattle.cube_math.specs.Masks.{left-over, ones-mono}
 use Rattle.cube_math.specs.Plain.{bit-full, full-below}
-use Rattle.cube_math.specs.Choose.{choose, gather, cleared}
+use Rattle.cube_math.specs.Choose.{choose, gather}
 
 -- the sum of two different powers of two is none
 pub flip-two : (b x y r : ℕ) → x ≢ y → flip b y ≡ flip (flip b x) r → ⊥
@@ -185,26 +185,6 @@ module _ (m s0 k : ℕ) (tb tp : ℕ → ℕ) (done : ℕ) (gate : ℕ → ℕ) 
 
 -- ---- all of them, one after the other
 
--- a value changed in one place
-pub put : (ℕ → ℕ) → ℕ → ℕ → ℕ → ℕ
-put f j v i = after (ℕ-discrete i j) v (f i)
-
-pub put-same : (f : ℕ → ℕ) (j v i : ℕ) → i ≡ j → put f j v i ≡ v
-unfolding put
-put-same f j v i e = by (ℕ-discrete i j)
-  where
-    by : (d : Dec (i ≡ j)) → after d v (f i) ≡ v
-    by (yes e) = refl
-    by (no ne) = absurd (ne e)
-
-pub put-other : (f : ℕ → ℕ) (j v i : ℕ) → i ≢ j → put f j v i ≡ f i
-unfolding put
-put-other f j v i ne = by (ℕ-discrete i j)
-  where
-    by : (d : Dec (i ≡ j)) → after d v (f i) ≡ f i
-    by (yes e) = absurd (ne e)
-    by (no z) = refl
-
 -- every member of `done` has its gate
 abbrev pub Gates : (m s0 k : ℕ) (tb tp : ℕ → ℕ) (done : ℕ) (gate : ℕ → ℕ) → Type 0
 Gates m s0 k tb tp done gate = (j : ℕ) → j < k → bit j done ≡ 1 → Passes m s0 k tb tp done gate j (gate j)
@@ -238,15 +218,3 @@ gates-more m s0 k tb tp done more j q gate new g lt only at-j else p i h o = ⊎
               (λ e. p .own i h ne (only i o ne) (ap (flip (tb j)) (sym at-j) ∙ ap (λ (y : ℕ). flip (tb y) (new y)) (sym e) ∙ sym z))
               (λ nj. a .own l b nl (only l u nj) (z ∙ ap (flip (tb l)) (else l nj))) (same-or l j);
         })
-
-pub all-gates : (m s0 k : ℕ) (tb tp : ℕ → ℕ) → k ≤ m + 1 → ((i j : ℕ) → i < k → j < k → i ≢ j → tb i ≡ tb j → tp i ≢ tp j)
-    → (gated : ℕ) → ((j : ℕ) → bit j gated ≡ 1 → (j < k) × (tb j ≢ s0)) → (gate : ℕ → ℕ) × Gates m s0 k tb tp gated gate
-all-gates m s0 k tb tp few differ = mask-ind (λ (g : ℕ). ((j : ℕ) → bit j g ≡ 1 → (j < k) × (tb j ≢ s0)) → (gate : ℕ → ℕ) × Gates m s0 k tb tp g gate)
-    (λ h. ((λ j. 0), λ j l o. absurd (clash (bit-none j) o)))
-    (λ g j o ih h.
-    let b = ih (λ i p. h i (cleared g j o i p .0)) in
-    let f = gate-found m s0 k tb tp (flip g j) (b .0) few differ (b .1) j (h j o .0) (h j o .1) in (
-      put (b .0) j (cand m (tp j) (f .0)),
-      gates-more m s0 k tb tp (flip g j) g j (cand m (tp j) (f .0)) (b .0) (put (b .0) j (cand m (tp j) (f .0))) (b .1) (h j o .0)
-          (λ i p ne. flip-other g j i ne ∙ p) (put-same (b .0) j (cand m (tp j) (f .0)) j refl) (λ i ne. put-other (b .0) j (cand m (tp j) (f .0)) i ne) (f .2),
-    ))

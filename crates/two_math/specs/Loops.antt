@@ -132,10 +132,6 @@ pub walk-last : (free u t : ℕ) (l : List ℕ) → Walk free u t l → last u l
 walk-last free u t [] w = w
 walk-last free u t (v ∷ l) w = walk-last free v t l (w .3)
 
-pub last-append : (u v : ℕ) (l : List ℕ) → last u (l ++ (v ∷ [])) ≡ v
-last-append u v [] = refl
-last-append u v (x ∷ l) = last-append x v l
-
 -- a walk ends with its last hop: all but the last relay, the last, and the door between
 pub walk-split : (free u t v : ℕ) (l : List ℕ) → Walk free u t (v ∷ l) → (r : List ℕ) × (d : ℕ) × (bit d free ≡ 1) × (v ∷ l ≡ r ++ (t ∷ [])) × (t ≡ flip (last u r) d)
 walk-split free u t v [] w = ([], w .0, w .1, ap (λ (y : ℕ). y ∷ []) (w .3), sym (w .3) ∙ w .2)
@@ -161,13 +157,6 @@ door-of w u v d e f low =
 
 gone : (m j c : ℕ) → bit c (flip m j) ≡ 0 → (c ≡ j) ⊎ (bit c m ≡ 0)
 gone m j c z = ⊎-elim inl (λ ne. inr (sym (flip-other m j c ne) ∙ z)) (same-or c j)
-
--- the members of m with A
-pub record Choosing (A B : ℕ → Type 0) (m todo r : ℕ) : Type 0 where
-  pub sub : (j : ℕ) → bit j r ≡ 1 → bit j m ≡ 1
-  pub holds : (j : ℕ) → bit j r ≡ 1 → A j
-  pub fails : (j : ℕ) → bit j m ≡ 1 → bit j todo ≡ 0 → bit j r ≡ 0 → B j
-  pub ahead : (j : ℕ) → bit j todo ≡ 1 → bit j m ≡ 1
 
 -- the values of the members of m
 pub record Using (R : ℕ → ℕ → Type 0) (m todo r : ℕ) : Type 0 where

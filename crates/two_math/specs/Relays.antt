@@ -44,15 +44,6 @@ on-append b p [] r h = inr h
 on-append b p (x ∷ l) r (inl e) = inl (inl e)
 on-append b p (x ∷ l) r (inr h) = ⊎-elim (λ z. inl (inr z)) inr (on-append b p l r h)
 
-pub on-left : (b p : ℕ) (l r : List Relay) → On b p l → On b p (l ++ r)
-on-left b p [] r h = absurd h
-on-left b p (x ∷ l) r (inl e) = inl e
-on-left b p (x ∷ l) r (inr h) = inr (on-left b p l r h)
-
-pub on-right : (b p : ℕ) (l r : List Relay) → On b p r → On b p (l ++ r)
-on-right b p [] r h = h
-on-right b p (x ∷ l) r h = inr (on-right b p l r h)
-
 pub once-append : (l r : List Relay) → Once l → Once r → ((b p : ℕ) → On b p l → On b p r → ⊥) → Once (l ++ r)
 once-append [] r o q h = q
 once-append (x ∷ l) r o q h =
@@ -68,11 +59,6 @@ pub on-inside : (b p c : ℕ) (l : List ℕ) → On b p (inside c l) → (b ≡ 
 on-inside b p c [] h = absurd h
 on-inside b p c (x ∷ l) (inl e) = (e .0, inl (e .1))
 on-inside b p c (x ∷ l) (inr h) = let r = on-inside b p c l h in (r .0, inr (r .1))
-
-pub inside-on : (b p : ℕ) (l : List ℕ) → In p l → On b p (inside b l)
-inside-on b p [] h = h
-inside-on b p (x ∷ l) (inl e) = inl (refl, e)
-inside-on b p (x ∷ l) (inr h) = inr (inside-on b p l h)
 
 pub once-inside : (b : ℕ) (l : List ℕ) → Fresh l → Once (inside b l)
 once-inside b [] f = tt

@@ -1,13 +1,12 @@
--- Order 1 is a ring of eight relays: right to the nearer target, left to the other (`ring-fan`). Assumes nothing.
+-- Order 1 is a ring of eight relays: right to the nearer target, left to the other is a fan (`ring-laid`). Assumes nothing.
 use Prim.Native.Nat.{ℕ, zero, suc, _+_, _-_, _%_, _≤_, _<_}
 use mathlib.Core.Path.{_≡_, refl, sym, ap, _∙_, subst}
 use mathlib.Core.Logic.{_⊎_, inl, inr, _≢_}
 use mathlib.Core.List.{List, [], _∷_}
 use native.Mathlib.Omega.{arith}
-use native.Mathlib.Decide.{ℕ-discrete}
 use lib.ListN.{length}
 use Rattle.bits.specs.Bit.{flip}
-use Rattle.bits.specs.Laws.{lt-or, flip-flip}
+use Rattle.bits.specs.Laws.{flip-flip}
 use Rattle.cube_math.specs.Paths.{same-or}
 use Rattle.two_math.specs.Relays.{Relay, On, Once, Link, Chain}
 use Rattle.two_math.specs.Assemble.{most, TwoFan}
@@ -252,42 +251,3 @@ module _ (s0 p0 k : ℕ) (tb tp : ℕ → ℕ) (ask : Ask 1 s0 p0 k tb tp) where
       let b = place-below (tb i) (tp i) in
       let c = place-below (tb j) (tp j) in
       spots i j h g ne (omega arith)
-
-  abbrev side : {A : Type 0} → Dec A → List Relay → List Relay → List Relay
-  side (yes e) a b = a
-  side (no ne) a b = b
-
-  lay : (near : ℕ) → near < 2 → ((j : ℕ) → j < k → near < k → j ≢ near → far near < far j) → (paths : ℕ → List Relay) × TwoFan 1 s0 p0 k tb tp paths
-  lay near hn nearer =
-      let paths : ℕ → List Relay = λ j. side (ℕ-discrete j near) (right home (far j)) (left (home + 8) (8 - far j)) in
-      let q : Ringed home k near tb tp far paths = record {
-        few = ask .few;
-        near-in = hn;
-        reach = reach;
-        nearer = nearer;
-        path-near = λ h. yes-side near (right home (far near)) (left (home + 8) (8 - far near)) refl (ℕ-discrete near near);
-        path-other = λ j h ne. no-side j (right home (far j)) (left (home + 8) (8 - far j)) ne (ℕ-discrete j near);
-      } in
-      (paths, subst (λ (y : ℕ). TwoFan 1 s0 y k tb tp paths) (at-home .1) (subst (λ (y : ℕ). TwoFan 1 y (at home .1) k tb tp paths) (at-home .0) (ring-laid q)))
-    where
-      yes-side : (j : ℕ) (a b : List Relay) → j ≡ near → (d : Dec (j ≡ near)) → side d a b ≡ a
-      yes-side j a b e (yes z) = refl
-      yes-side j a b e (no z) = absurd (z e)
-
-      no-side : (j : ℕ) (a b : List Relay) → j ≢ near → (d : Dec (j ≡ near)) → side d a b ≡ b
-      no-side j a b ne (yes z) = absurd (ne z)
-      no-side j a b ne (no z) = refl
-
-  pub ring-fan : (paths : ℕ → List Relay) × TwoFan 1 s0 p0 k tb tp paths
-  ring-fan = by (lt-or (far 0) (far 1))
-    where
-      is-one : (j : ℕ) → j < k → j ≢ 0 → j ≡ 1
-      is-one j h ne = omega (arith, ask .few)
-
-      is-zero : (j : ℕ) → j < k → j ≢ 1 → j ≡ 0
-      is-zero j h ne = omega (arith, ask .few)
-
-      by : (far 0 < far 1) ⊎ ((far 0 ≡ far 1) ⊎ (far 1 < far 0)) → (paths : ℕ → List Relay) × TwoFan 1 s0 p0 k tb tp paths
-      by (inl l) = lay 0 (omega arith) (λ j h g ne. subst (λ (y : ℕ). far 0 < far y) (sym (is-one j h ne)) l)
-      by (inr (inl e)) = lay 0 (omega arith) (λ j h g ne. absurd (fars 0 1 g (subst (λ (y : ℕ). y < k) (is-one j h ne) h) (λ z. omega arith) e))
-      by (inr (inr l)) = lay 1 (omega arith) (λ j h g ne. subst (λ (y : ℕ). far 1 < far y) (sym (is-zero j h ne)) l)

@@ -11,13 +11,13 @@ use lib.Pow.{pow-pos}
 use Rattle.bits.specs.Bit.{flip}
 use Rattle.bits.specs.Laws.{flip-flip}
 use Rattle.cube_math.specs.Doors.{In, Fresh, Walk, Way, Doors}
-use Rattle.cube_math.specs.Paths.{same-or, flip-moves, flip-eq, flip-comm, not-cons}
+use Rattle.cube_math.specs.Paths.{flip-moves, flip-eq, flip-comm, not-cons}
 use Rattle.cube_math.specs.Plain.{bit-full}
 use Rattle.two_math.specs.Relays.{Relay, inside}
-use Rattle.two_math.specs.Through.{Stroll, stroll, Crosses}
+use Rattle.two_math.specs.Through.{Stroll, Crosses}
 use Rattle.two_math.specs.Assemble.{TwoFan, Leg, assemble}
 use Rattle.two_math.specs.Plan.{walk-end, way-end}
-use Rattle.two_math.specs.Gates.{find, flip-two}
+use Rattle.two_math.specs.Gates.{flip-two}
 
 -- the blocks of the round trip to the slot a
 abbrev pub round : ℕ → ℕ → ℕ → List ℕ
@@ -127,10 +127,6 @@ round-fan {m} {s0} {p0} {k} {left} {tb} {tp} {head} {body} {paths} q =
 
 -- ---- the swap
 
-pub in? : (x : ℕ) (l : List ℕ) → In x l ⊎ (In x l → ⊥)
-in? x [] = inr (λ z. z)
-in? x (y ∷ l) = ⊎-elim (λ e. inl (inl e)) (λ ne. ⊎-elim (λ h. inl (inr h)) (λ n. inr (not-cons ne n)) (in? x l)) (same-or x y)
-
 -- a walk to t cut at x, a relay of it other than t
 pub record Upto (free u t : ℕ) (l : List ℕ) (x : ℕ) (cut : List ℕ) : Type 0 where
   pub walk : Walk free u x cut
@@ -159,11 +155,6 @@ upto free u t (v ∷ c ∷ l) (suc i) w f h ne =
       part = part;
       misses = not-cons (λ z. f .1 .0 (subst (λ (y : ℕ). In y (c ∷ l)) z (walk-end free v t c (c ∷ l) l refl (w .3)))) (r .misses);
     }
-
-in-place : (x : ℕ) (l : List ℕ) → In x l → (i : ℕ) × (i < length l) × (getD l i 0 ≡ x)
-in-place x [] h = absurd h
-in-place x (y ∷ l) (inl e) = (0, omega arith, sym e)
-in-place x (y ∷ l) (inr h) = let r = in-place x l h in (suc (r .0), omega (arith, r .1), r .2)
 
 module _ (m p0 : ℕ) (tp : ℕ → ℕ) (shut : ℕ) (f : ℕ → List ℕ) (fan : Doors m (2 ^ m - 1) p0 shut (2 ^ m - 1) tp f) where
   way : (j : ℕ) → j < m → Way m (2 ^ m - 1) p0 shut (tp j) (f j)
@@ -222,43 +213,3 @@ round-crosses m s0 p0 a x y z sx sy sz =
     let mid = inside (flip (flip s0 p0) a) (a ∷ y) ++ last in
     let back : flip s0 a ≡ flip (flip (flip s0 p0) a) p0 = sym (flip-comm (flip s0 p0) a p0 ∙ ap (λ (u : ℕ). flip u a) (flip-flip s0 p0)) in
     (a, x, mid, refl, sx, (p0, y, last, refl, sy, (a, z, [], back, sz, (refl, refl, refl), refl), refl), refl)
-
-pub round-body : (m s0 p0 a : ℕ) → p0 < 2 ^ m → a < 2 ^ m → (body : List Relay) × Crosses m s0 p0 (flip s0 a) a (round s0 p0 a) body
-round-body m s0 p0 a hp ha =
-    let x = stroll m p0 a hp ha in
-    let y = stroll m a p0 ha hp in
-    (inside (flip s0 p0) (p0 ∷ x .0) ++ (inside (flip (flip s0 p0) a) (a ∷ y .0) ++ (inside (flip s0 a) (p0 ∷ x .0) ++ [])), round-crosses m s0 p0 a (x .0) (y .0) (x .0) (x .1) (y .1) (x .1))
-
-module _ (m s0 p0 : ℕ) (tb tp : ℕ → ℕ) (hp : p0 < 2 ^ m) (slots : (j : ℕ) → j < suc m → tp j < 2 ^ m) (inner : (j : ℕ) → j < suc m → tb j ≡ s0)
-    (differ : (i j : ℕ) → i < suc m → j < suc m → i ≢ j → tp i ≢ tp j) (others : (j : ℕ) → j < suc m → tp j ≢ p0)
-    (shut : ℕ) (f : ℕ → List ℕ) (fan : Doors m (2 ^ m - 1) p0 shut (2 ^ m - 1) tp f) where
-  abbrev Whole : Type 0
-  Whole = (paths : ℕ → List Relay) × TwoFan m s0 p0 (suc m) tb tp paths
-
-  make : (left : ℕ) → left < suc m → (head : ℕ → List ℕ) → Heads m p0 (suc m) left tp head → Whole
-  make left hl head heads =
-      let b = round-body m s0 p0 (tp left) hp (slots left hl) in
-      let paths : ℕ → List Relay = λ j. when (ℕ-discrete j left) (b .0 ++ inside s0 (tp left ∷ [])) (inside s0 (head j)) in (
-        paths,
-        round-fan {head = head} {body = b .0} (record {
-          inner = inner;
-          left-in = hl;
-          other = others left hl;
-          heads = heads;
-          crosses = b .1;
-          path-other = λ j h ne. when-no (ℕ-discrete j left) (b .0 ++ inside s0 (tp left ∷ [])) (inside s0 (head j)) ne;
-          path-left = when-yes (ℕ-discrete left left) (b .0 ++ inside s0 (tp left ∷ [])) (inside s0 (head left)) refl;
-        }),
-      )
-
-  swapped : (y : ℕ) → y < m → In (tp m) (f y) → Whole
-  swapped y hy on =
-      let w = way m p0 tp shut f fan y hy in
-      let at = in-place (tp m) (f y) on in
-      let ends : getD (f y) (at .0) 0 ≢ tp y = λ e. differ m y (omega arith) (omega arith) (λ z. omega arith) (sym (at .2) ∙ e) in
-      let c = upto (2 ^ m - 1) p0 (tp y) (f y) (at .0) (w .walk) (w .away, w .fresh) (at .1) ends in
-      make y (omega arith) (λ j. when (ℕ-discrete j m) (take (suc (at .0)) (f y)) (f j))
-      (heads-swapped m p0 tp shut f fan y hy (take (suc (at .0)) (f y)) (subst (λ (x : ℕ). Upto (2 ^ m - 1) p0 (tp y) (f y) x (take (suc (at .0)) (f y))) (at .2) c))
-
-  pub round-trip : (paths : ℕ → List Relay) × TwoFan m s0 p0 (suc m) tb tp paths
-  round-trip = ⊎-elim (λ x. swapped (x .0) (x .1) (x .2)) (λ n. make m (omega arith) f (heads-none m p0 tp shut f fan n)) (find (λ j. In (tp m) (f j)) (λ j. in? (tp m) (f j)) m)

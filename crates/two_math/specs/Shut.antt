@@ -1,22 +1,21 @@
 -- The doors that are shut for the block paths, what the cube fan of blocks may be asked, and who leaves by p0. Assumes nothing.
-use Prim.Native.Nat.{ℕ, zero, suc, _+_, _-_, _^_, _≤_, _<_}
+use Prim.Native.Nat.{ℕ, _+_, _-_, _^_, _<_}
 use mathlib.Core.Path.{_≡_, refl, sym, ap, _∙_, subst}
 use mathlib.Core.Logic.{_⊎_, inl, inr, ⊎-elim, _≢_}
 use mathlib.Core.List.{List, _∷_}
-use native.Mathlib.Numerals.{add-one}
 use native.Mathlib.Omega.{arith}
 use lib.Count.{ones, ones-ones}
 use Rattle.bits.specs.Bit.{bit, flip}
 use Rattle.bits.specs.Laws.{bit-cases, bit-none, clash, lt-or-le, flip-same, flip-other, flip-lt, ones-clear, ones-none}
 use Rattle.cube_math.specs.Doors.{Doors}
-use Rattle.cube_math.specs.Paths.{same-or, off-on}
+use Rattle.cube_math.specs.Paths.{off-on}
 use Rattle.cube_math.specs.Masks.{left-over}
 use Rattle.cube_math.specs.Plain.{bit-full, full-below, bit-high}
 use Rattle.cube_math.specs.Choose.{cleared}
-use Rattle.cube_math.specs.First.{first-all, part-all}
+use Rattle.cube_math.specs.First.{first-all}
 use Rattle.cube_math.specs.Request.{Request}
 use Rattle.two_math.specs.Gates.{Near, Gates}
-use Rattle.two_math.specs.Sort.{Ask, Shared, Behind, behind?, Sorts, mates-gated, Keeps, Ends, doors-enough}
+use Rattle.two_math.specs.Sort.{Ask, Shared, Behind, behind?, Sorts, mates-gated, Keeps, Ends}
 use Rattle.two_math.specs.Plan.{Gate, Guard}
 
 -- as many doors are open as there are block paths, no kept door, and p0 among them unless it is kept
@@ -59,24 +58,6 @@ opening-more {N} {p0} {keep} {n} {shut} x k o z why = record {
 pub opening-left : {N p0 keep n shut : ℕ} → Opening N p0 keep n shut → n + ones keep < N → (x : ℕ) × (bit x shut ≡ 1) × (bit x keep ≡ 0)
 opening-left {N} {p0} {keep} {n} {shut} k h = left-over shut keep (omega (arith, k .count))
 
-open-some : (N p0 keep n : ℕ) → p0 < N → ((a : ℕ) → bit a keep ≡ 1 → a < N) → n + ones keep ≤ N → (shut : ℕ) × Opening N p0 keep n shut
-open-some N p0 keep zero hp below room = (2 ^ N - 1, opening-none N p0 keep below)
-open-some N p0 keep (suc n) hp below room = step (open-some N p0 keep n hp below (omega arith))
-  where
-    next : {shut : ℕ} (x : ℕ) → Opening N p0 keep n shut → bit x shut ≡ 1 → bit x keep ≡ 0 → (n ≢ 0) ⊎ ((x ≡ p0) ⊎ (bit p0 keep ≡ 1)) → (shut : ℕ) × Opening N p0 keep (suc n) shut
-    next {shut} x k o z why = (flip shut x, subst (λ (y : ℕ). Opening N p0 keep y (flip shut x)) (add-one n) (opening-more x k o z why))
-
-    any : {shut : ℕ} → Opening N p0 keep n shut → (n ≢ 0) ⊎ (bit p0 keep ≡ 1) → (shut : ℕ) × Opening N p0 keep (suc n) shut
-    any k why = let x = opening-left k (omega arith) in next (x .0) k (x .1) (x .2) (⊎-elim inl (λ o. inr (inr o)) why)
-
-    step : (s : ℕ) × Opening N p0 keep n s → (shut : ℕ) × Opening N p0 keep (suc n) shut
-    step (s, k) = ⊎-elim
-        (λ e. ⊎-elim (λ z. next p0 k (first s k e) z (inr (inl refl))) (λ o. any k (inr o)) (bit-cases p0 keep))
-        (λ ne. any k (inl ne)) (same-or n 0)
-      where
-        first : (s : ℕ) → Opening N p0 keep n s → n ≡ 0 → bit p0 s ≡ 1
-        first s k e = part-all (2 ^ N - 1) s (λ i o. bit-full N i (k .within i o)) (omega (arith, k .count, ones-ones N)) p0 (bit-full N p0 hp)
-
 module _ {m s0 p0 k : ℕ} {tb tp : ℕ → ℕ} {inner kept gated : ℕ} {gate : ℕ → ℕ} {straight keep base singles reps rows : ℕ} {ends : ℕ → ℕ}
     (ask : Ask m s0 p0 k tb tp) (sort : Sorts s0 k tb tp inner kept gated) (gates : Gates m s0 k tb tp gated gate)
     (keep-is : Keeps s0 tb kept gated gate straight keep) (end-is : Ends s0 k tb inner gated gate straight keep base singles reps rows ends) where
@@ -98,11 +79,6 @@ module _ {m s0 p0 k : ℕ} {tb tp : ℕ → ℕ} {inner kept gated : ℕ} {gate 
 
   pub shuts-when : {shut : ℕ} → Opening (2 ^ m) p0 keep (ones rows) shut → Shuts m p0 keep rows shut
   shuts-when k = record { within = k .within; keeps = k .keeps; count = k .count; ajar = λ ne. k .ajar (λ z. ne (ones-none rows z)) }
-
-  pub some-shut : 2 ≤ m → (shut : ℕ) × Shuts m p0 keep rows shut
-  some-shut order =
-      let s = open-some (2 ^ m) p0 keep (ones rows) (ask .home-slot) keep-below (doors-enough ask sort gates keep-is end-is order) in
-      (s .0, shuts-when (s .1))
 
   -- whose end the row x is
   abbrev Kind : ℕ → Type 0

@@ -1,6 +1,6 @@
 -- The targets sorted, the doors kept, the ends of block paths, the doors shut: as masks, by facts; with the counts. Assumes nothing.
 use Prim.Native.Nat.{ℕ, zero, suc, _+_, _-_, _*_, _^_, _≤_, _<_}
-use mathlib.Core.Path.{_≡_, refl, sym, ap, _∙_, subst}
+use mathlib.Core.Path.{_≡_, sym, _∙_, subst}
 use mathlib.Core.Logic.{_⊎_, inl, inr, ⊎-elim, _≢_}
 use native.Mathlib.Nat.{pow-suc}
 use native.Mathlib.Omega.{arith}
@@ -8,13 +8,13 @@ use lib.Bits.{bitOr}
 use lib.Count.{ones, ones-ones}
 use lib.Pow.{pow-pos}
 use Rattle.bits.specs.Bit.{bit, flip}
-use Rattle.bits.specs.Laws.{bit-cases, bit-none, clash, lt-or-le, flip-other, bit-pow-same, bit-pow-other}
+use Rattle.bits.specs.Laws.{bit-cases, clash}
 use Rattle.cube_math.specs.Paths.{same-or, flip-eq}
-use Rattle.cube_math.specs.Masks.{less, ones-mono, mask-ind, some-bit}
+use Rattle.cube_math.specs.Masks.{less, ones-mono}
 use Rattle.cube_math.specs.Plain.{bit-full, full-below}
-use Rattle.cube_math.specs.Choose.{Chosen, choose, Used, gather, cleared, neighbour, or-on, or-left, or-right, ones-less, less-on, less-or, ones-or}
+use Rattle.cube_math.specs.Choose.{Chosen, Used, gather, neighbour, or-on, or-left, or-right, ones-less, less-on, less-or, ones-or}
 use Rattle.cube_math.specs.First.{no-fewer}
-use Rattle.two_math.specs.Gates.{Gates, find}
+use Rattle.two_math.specs.Gates.{Gates}
 
 -- what may be asked
 pub record Ask (m s0 p0 k : ℕ) (tb tp : ℕ → ℕ) : Type 0 where
@@ -64,31 +64,6 @@ sorts-from {s0} {k} {tb} {tp} inner kept gated c g d = record {
   gated-off = λ j h ne z. d .fails j (bit-full k j h) z ne;
 }
 
-pub sorts : (s0 k : ℕ) (tb tp : ℕ → ℕ) → (inner kept gated : ℕ) × Sorts s0 k tb tp inner kept gated
-sorts s0 k tb tp =
-    let c = choose (λ j. tb j ≡ s0) (λ j. tb j ≢ s0) (λ j. same-or (tb j) s0) (2 ^ k - 1) in
-    let g = gather (λ j a. tp j ≡ a) (c .0) (λ j o. (tp j, refl)) in
-    let d = choose (λ j. (tb j ≢ s0) × (Shared k tb j ⊎ Behind s0 (g .0) (tb j)))
-    (λ j. tb j ≢ s0 → ((i : ℕ) → i < k → i ≢ j → tb i ≢ tb j) × ((a : ℕ) → bit a (g .0) ≡ 1 → tb j ≢ flip s0 a)) (gated? (g .0)) (2 ^ k - 1) in
-    (c .0, g .0, d .0, sorts-from (c .0) (g .0) (d .0) (c .1) (g .1) (d .1))
-  where
-    shared? : (j : ℕ) → Shared k tb j ⊎ ((i : ℕ) → i < k → i ≢ j → tb i ≢ tb j)
-    shared? j = ⊎-elim (λ x. inl (x .0, x .1, x .2 .0, x .2 .1)) (λ none. inr (λ i h ne e. none i h (ne, e)))
-        (find (λ i. (i ≢ j) × (tb i ≡ tb j))
-        (λ i. ⊎-elim (λ e. inr (λ z. z .0 e)) (λ ne. ⊎-elim (λ e. inl (ne, e)) (λ z. inr (λ y. z (y .1))) (same-or (tb i) (tb j))) (same-or i j)) k)
-
-    gated? : (kept j : ℕ) → ((tb j ≢ s0) × (Shared k tb j ⊎ Behind s0 kept (tb j)))
-        ⊎ (tb j ≢ s0 → ((i : ℕ) → i < k → i ≢ j → tb i ≢ tb j) × ((a : ℕ) → bit a kept ≡ 1 → tb j ≢ flip s0 a))
-    gated? kept j = by (same-or (tb j) s0) (shared? j) (behind? s0 kept (tb j))
-      where
-        by : (tb j ≡ s0) ⊎ (tb j ≢ s0) → Shared k tb j ⊎ ((i : ℕ) → i < k → i ≢ j → tb i ≢ tb j) → Behind s0 kept (tb j) ⊎ ((a : ℕ) → bit a kept ≡ 1 → tb j ≢ flip s0 a)
-            → ((tb j ≢ s0) × (Shared k tb j ⊎ Behind s0 kept (tb j)))
-            ⊎ (tb j ≢ s0 → ((i : ℕ) → i < k → i ≢ j → tb i ≢ tb j) × ((a : ℕ) → bit a kept ≡ 1 → tb j ≢ flip s0 a))
-        by (inl e) b c = inr (λ ne. absurd (ne e))
-        by (inr ne) (inl b) c = inl (ne, inl b)
-        by (inr ne) (inr b) (inl c) = inl (ne, inr c)
-        by (inr ne) (inr b) (inr c) = inr (λ z. (b, c))
-
 -- all targets of a gated target's block are gated
 pub mates-gated : {s0 k : ℕ} {tb tp : ℕ → ℕ} {inner kept gated : ℕ} → Sorts s0 k tb tp inner kept gated → (i j : ℕ) → i < k → bit j gated ≡ 1 → tb i ≡ tb j → bit i gated ≡ 1
 mates-gated {s0} {k} {tb} {tp} {inner} {kept} {gated} s i j h o e = ⊎-elim
@@ -117,12 +92,6 @@ keeps-from {s0} {tb} {kept} {gated} {gate} straight slots c g = record {
   keep-few = omega (arith, ones-or kept slots, g .few);
 }
 
-pub keeps : (s0 : ℕ) (tb : ℕ → ℕ) (kept gated : ℕ) (gate : ℕ → ℕ) → (straight keep : ℕ) × Keeps s0 tb kept gated gate straight keep
-keeps s0 tb kept gated gate =
-    let c = choose (λ j. flip (tb j) (gate j) ≡ s0) (λ j. flip (tb j) (gate j) ≢ s0) (λ j. same-or (flip (tb j) (gate j)) s0) gated in
-    let g = gather (λ j a. gate j ≡ a) (c .0) (λ j o. (gate j, refl)) in
-    (c .0, bitOr kept (g .0), keeps-from (c .0) (g .0) (c .1) (g .1))
-
 -- the targets with a block path of their own, `singles`; a representative of each gated block that is not behind a kept door, `reps`; the
 -- block paths: that of a single target has its index, that of a crowd the index of its representative and `base`
 pub record Ends (s0 k : ℕ) (tb : ℕ → ℕ) (inner gated : ℕ) (gate : ℕ → ℕ) (straight keep base singles reps rows : ℕ) (ends : ℕ → ℕ) : Type 0 where
@@ -146,52 +115,6 @@ pub record Classes (f : ℕ → ℕ) (s r : ℕ) : Type 0 where
   pub sub : (j : ℕ) → bit j r ≡ 1 → bit j s ≡ 1
   pub differ : (i j : ℕ) → bit i r ≡ 1 → bit j r ≡ 1 → i ≢ j → f i ≢ f j
   pub all : (j : ℕ) → bit j s ≡ 1 → (c : ℕ) × (bit c r ≡ 1) × (f c ≡ f j)
-
-pub classes-none : (f : ℕ → ℕ) → Classes f 0 0
-classes-none f = record { sub = λ j o. o; differ = λ i j o. absurd (clash (bit-none i) o); all = λ j o. absurd (clash (bit-none j) o) }
-
--- one member more, of a class that has its representative
-pub classes-old : {f : ℕ → ℕ} {s r : ℕ} (j more c : ℕ) → Classes f s r → bit c r ≡ 1 → f c ≡ f j
-    → ((i : ℕ) → bit i more ≡ 1 → (bit i s ≡ 1) ⊎ (i ≡ j)) → ((i : ℕ) → bit i s ≡ 1 → bit i more ≡ 1) → Classes f more r
-classes-old {f} {s} {r} j more c k o e from keep = record {
-  sub = λ i p. keep i (k .sub i p);
-  differ = k .differ;
-  all = λ i p. ⊎-elim (k .all i) (λ z. (c, o, e ∙ ap f (sym z))) (from i p);
-}
-
--- one member more, of a new class
-pub classes-new : {f : ℕ → ℕ} {s r : ℕ} (j more new : ℕ) → Classes f s r → ((c : ℕ) → bit c r ≡ 1 → f c ≢ f j)
-    → ((i : ℕ) → bit i more ≡ 1 → (bit i s ≡ 1) ⊎ (i ≡ j)) → ((i : ℕ) → bit i s ≡ 1 → bit i more ≡ 1) → bit j more ≡ 1
-    → ((i : ℕ) → bit i new ≡ 1 → (bit i r ≡ 1) ⊎ (i ≡ j)) → ((i : ℕ) → bit i r ≡ 1 → bit i new ≡ 1) → bit j new ≡ 1 → Classes f more new
-classes-new {f} {s} {r} j more new k none from keep at from-r keep-r at-r = record {
-  sub = λ i p. ⊎-elim (λ q. keep i (k .sub i q)) (λ e. subst (λ (y : ℕ). bit y more ≡ 1) (sym e) at) (from-r i p);
-  differ = λ a b p q ne. ⊎-elim
-      (λ x. ⊎-elim (λ y. k .differ a b x y ne) (λ y z. none a x (z ∙ ap f y)) (from-r b q))
-      (λ x. ⊎-elim (λ y z. none b y (sym z ∙ ap f x)) (λ y. absurd (ne (x ∙ sym y))) (from-r b q)) (from-r a p);
-  all = λ i p. ⊎-elim (λ q. let u = k .all i q in (u .0, keep-r (u .0) (u .1), u .2)) (λ e. (j, at-r, ap f (sym e))) (from i p);
-}
-
-pub classes : (f : ℕ → ℕ) (s : ℕ) → (r : ℕ) × Classes f s r
-classes f = mask-ind (λ (s : ℕ). (r : ℕ) × Classes f s r) (0, classes-none f)
-    (λ s j o ih. step s j o (ih .0) (ih .1) (choose (λ i. f i ≡ f j) (λ i. f i ≢ f j) (λ i. same-or (f i) (f j)) (ih .0)))
-  where
-    step : (s j : ℕ) → bit j s ≡ 1 → (r : ℕ) → Classes f (flip s j) r → (d : ℕ) × Chosen (λ i. f i ≡ f j) (λ i. f i ≢ f j) r d → (r : ℕ) × Classes f s r
-    step s j o r k d = ⊎-elim
-        (λ z. (
-          bitOr r (2 ^ j),
-          classes-new j s (bitOr r (2 ^ j)) k (λ c p. d .1 .fails c p (ap (bit c) z ∙ bit-none c)) from keep o
-              (λ i p. ⊎-elim inl (λ q. inr (only i j q)) (or-on i r (2 ^ j) p)) (λ i p. or-left i r (2 ^ j) p) (or-right j r (2 ^ j) (bit-pow-same j)),
-        ))
-        (λ ne. let x = some-bit (d .0) ne in (r, classes-old j s (x .0) k (d .1 .sub (x .0) (x .1)) (d .1 .holds (x .0) (x .1)) from keep)) (same-or (d .0) 0)
-      where
-        from : (i : ℕ) → bit i s ≡ 1 → (bit i (flip s j) ≡ 1) ⊎ (i ≡ j)
-        from i p = ⊎-elim inr (λ ne. inl (flip-other s j i ne ∙ p)) (same-or i j)
-
-        keep : (i : ℕ) → bit i (flip s j) ≡ 1 → bit i s ≡ 1
-        keep i p = cleared s j o i p .0
-
-        only : (i j : ℕ) → bit i (2 ^ j) ≡ 1 → i ≡ j
-        only i j p = ⊎-elim (λ e. e) (λ ne. absurd (clash (bit-pow-other i j ne) p)) (same-or i j)
 
 -- from masks made by tests, classes and unions
 pub ends-from : {s0 k : ℕ} {tb : ℕ → ℕ} {inner gated : ℕ} {gate : ℕ → ℕ} {straight keep base : ℕ} (ajar reps crowds : ℕ) (ends : ℕ → ℕ) → k ≤ base
@@ -220,43 +143,6 @@ ends-from {s0} {k} {tb} {inner} {gated} {gate} {straight} {keep} {base} ajar rep
       end-gate = λ j o z. gates j (below j o) z;
       end-crowd = crowd;
     }
-
--- where a block path ends, with base = k
-end-by : (k : ℕ) (tb gate : ℕ → ℕ) (gated x : ℕ) → (x < k) ⊎ (k ≤ x) → (bit x gated ≡ 0) ⊎ (bit x gated ≡ 1) → ℕ
-end-by k tb gate gated x (inl h) (inl z) = tb x
-end-by k tb gate gated x (inl h) (inr o) = flip (tb x) (gate x)
-end-by k tb gate gated x (inr h) g = tb (x - k)
-
-pub some-ends : (s0 k : ℕ) (tb : ℕ → ℕ) (inner gated : ℕ) (gate : ℕ → ℕ) (straight keep : ℕ) → ((j : ℕ) → bit j inner ≡ 1 → (j < k) × (tb j ≡ s0))
-    → ((j : ℕ) → bit j gated ≡ 1 → (j < k) × (tb j ≢ s0)) → ((j : ℕ) → bit j straight ≡ 1 → bit j gated ≡ 1)
-    → (singles reps rows : ℕ) × (ends : ℕ → ℕ) × Ends s0 k tb inner gated gate straight keep k singles reps rows ends
-unfolding end-by
-some-ends s0 k tb inner gated gate straight keep ion gon son =
-    let c = choose (λ j. (a : ℕ) → bit a keep ≡ 1 → tb j ≢ flip s0 a) (λ j. Behind s0 keep (tb j)) (λ j. ⊎-elim inr inl (behind? s0 keep (tb j))) gated in
-    let r = classes tb (c .0) in
-    let g = gather (λ j i. i ≡ k + j) (r .0) (λ j o. (k + j, refl)) in (
-      less (less (2 ^ k - 1) inner) straight,
-      r .0,
-      bitOr (less (less (2 ^ k - 1) inner) straight) (g .0),
-      (λ x. end-by k tb gate gated x (lt-or-le x k) (bit-cases x gated)),
-      ends-from (c .0) (r .0) (g .0) (λ x. end-by k tb gate gated x (lt-or-le x k) (bit-cases x gated)) (omega arith)
-          (λ j o. (ion j o .0, ⊎-elim (λ z. z) (λ z. absurd (gon j (son j z) .1 (ion j o .1))) (bit-cases j straight))) (λ j o. gon j (son j o) .0) (c .1) (r .1) (g .1)
-          (λ j h z. direct j h z (lt-or-le j k) (bit-cases j gated)) (λ j h z. gates j h z (lt-or-le j k) (bit-cases j gated)) (λ j o. crowd j (lt-or-le (k + j) k) (bit-cases (k + j) gated)),
-    )
-  where
-    direct : (j : ℕ) → j < k → bit j gated ≡ 0 → (a : (j < k) ⊎ (k ≤ j)) (b : (bit j gated ≡ 0) ⊎ (bit j gated ≡ 1)) → end-by k tb gate gated j a b ≡ tb j
-    direct j h z (inl a) (inl b) = refl
-    direct j h z (inl a) (inr b) = absurd (clash z b)
-    direct j h z (inr a) b = absurd (omega arith)
-
-    gates : (j : ℕ) → j < k → bit j gated ≡ 1 → (a : (j < k) ⊎ (k ≤ j)) (b : (bit j gated ≡ 0) ⊎ (bit j gated ≡ 1)) → end-by k tb gate gated j a b ≡ flip (tb j) (gate j)
-    gates j h z (inl a) (inl b) = absurd (clash b z)
-    gates j h z (inl a) (inr b) = refl
-    gates j h z (inr a) b = absurd (omega arith)
-
-    crowd : (j : ℕ) → (a : (k + j < k) ⊎ (k ≤ k + j)) (b : (bit (k + j) gated ≡ 0) ⊎ (bit (k + j) gated ≡ 1)) → end-by k tb gate gated (k + j) a b ≡ tb j
-    crowd j (inl a) b = absurd (omega arith)
-    crowd j (inr a) b = ap tb (omega arith)
 
 -- ---- the counts
 

@@ -11,7 +11,7 @@ use Rattle.bits.specs.Bit.{bit, flip}
 use Rattle.bits.specs.Laws.{lt-or-le}
 use Rattle.cube_math.specs.Doors.{In, Fresh, Walk}
 use Rattle.cube_math.specs.Plain.{full-below, bit-full, bit-high}
-use Rattle.cube_math.specs.Single.{rank, rank-le, Tail, tail-none, tail-all}
+use Rattle.cube_math.specs.Single.{rank, rank-le, tail-none, tail-all}
 use Rattle.two_math.specs.Relays.{Relay, On, Once, Chain, inside, on-append, once-append, chain-append, on-inside, once-inside, length-inside, chain-inside}
 
 -- a walk in a block from the slot p to the slot q, with no repeats
