@@ -64,12 +64,14 @@ fn ask(
 ) {
     let a = script::least(room, places.len());
     let b = script::least(counted, counts.len());
+    let shown = a + 2;
+    let told = b + 2;
     put_request(r, targets);
     put_checked(plan(r, targets, &mut places[..a], &mut counts[..b]));
     text(b" places");
-    put_first(places, a + 2);
+    put_first(places, shown);
     text(b" counts");
-    put_first(counts, b + 2);
+    put_first(counts, told);
     text(b"\n");
 }
 

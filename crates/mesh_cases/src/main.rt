@@ -27,9 +27,11 @@ fn case(list: &[u64], at: usize) -> usize
     }
 }
 
-fn cases(list: &[u64]) {
+// The cases among the first n numbers.
+fn cases(list: &[u64], n: usize) {
+    let end = script::least(n, list.len());
     let mut at: usize = 0;
-    while at < list.len() {
+    while at < end {
         at = case(list, at);
     }
 }
@@ -38,5 +40,5 @@ fn main() {
     let mut bytes = [0u8; 262144];
     let mut list = [0u64; 131072];
     let n = script::read_numbers(&mut bytes, &mut list);
-    cases(&list[..n]);
+    cases(&list, n);
 }
