@@ -1,7 +1,7 @@
 #!/usr/bin/env python3
 """Draws a fan in the two-level mesh of order 2 as SVG: what the program `fan` answers to a line, on standard input.
 
-    echo 'two 2 27 60 6 33' | target/bin/fan | python3 docs/picture/draw.py 'two 2 27 60 6 33' > docs/fan.svg
+    echo 'two 2 27 60 6 33' | target/bin/fan | python3 docs/picture/fan.py 'two 2 27 60 6 33' > docs/fan.svg
 
 A square is a block of four slots; thin lines are the links of the mesh, thick ones the paths. Blocks stand so that two that differ in one bit
 are in one row or one column, next to each other or at its two ends.
@@ -92,7 +92,7 @@ def drawing(request, paths):
 def main(request, answer):
     words = request.split()
     if words[:2] != ["two", str(ORDER)] or not answer[0].startswith("fan "):
-        sys.exit(f"draw: no fan of order {ORDER}: {request}: {answer[0]}")
+        sys.exit(f"fan.py: no fan of order {ORDER}: {request}: {answer[0]}")
     print("\n".join(drawing(request, [[int(w) for w in row.split()[1:]] for row in answer[1:]])))
 
 
