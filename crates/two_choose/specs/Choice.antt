@@ -10,6 +10,7 @@ use lib.ListN.{length, set, replicate, length-set}
 use lib.Pow.{pow-pos}
 use lib.Seq.{getD-set-same, getD-set-other}
 use lib.Bits.{bitOr}
+use Rattle.cube_math.specs.Masks.{at}
 use Rattle.bits.specs.Bit.{bit, flip}
 use Rattle.bits.specs.Laws.{bit-none, clash, flip-other, bit-pow-same, pow-bit, flip-lt}
 use Rattle.cube_math.specs.Paths.{same-or}
@@ -17,7 +18,6 @@ use Rattle.cube_math.specs.Choose.{Chosen, cleared, or-on, or-left, or-right}
 use Rattle.two_math.specs.Gates.{Gates, Near, gates-more}
 use Rattle.two_math.specs.Sort.{Behind, Shared}
 use Rattle.two_gate.specs.Says.{Tells, tells-no, tells-yes, Search, Serves}
-use Rattle.two_choose.specs.Masks.{at}
 
 -- ---- who needs a gate
 

@@ -10,14 +10,14 @@ use lib.Count.{ones}
 use lib.Pow.{pow-mono}
 use Rattle.bits.specs.Bit.{bit, flip}
 use Rattle.bits.specs.Laws.{bit-cases, clash}
-use Rattle.cube_math.specs.Masks.{less}
+use Rattle.cube_math.specs.Masks.{at, less}
 use Rattle.cube_math.specs.Choose.{Chosen, Used}
 use Rattle.cube_math.specs.Plain.{bit-full, full-below}
 use Rattle.two_math.specs.Gates.{Gates}
 use Rattle.two_math.specs.Sort.{Ask, Sorts, sorts-from, Keeps, keeps-from, Ends, ends-from, Classes, doors-enough}
 use Rattle.two_math.specs.Shut.{Opening, Shuts, keep-below, shuts-when}
 use Rattle.two_gate.specs.Says.{Small}
-use Rattle.two_choose.specs.Masks.{at, Equals, Few, common, chosen-common, chosen-less}
+use Rattle.two_choose.specs.Masks.{Equals, Few, common, chosen-common, chosen-less}
 use Rattle.two_choose.specs.Choice.{Gated, Hidden, GateAsk, GateAll}
 use Rattle.two_choose.specs.Doors.{Blocked, Ended, end-gated, end-plain, DoorAsk}
 

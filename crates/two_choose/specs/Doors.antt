@@ -13,12 +13,11 @@ use lib.Count.{ones, ones-ones}
 use borrow.Author.Tests.{eq-eqb, ne-eqb}
 use Rattle.bits.specs.Bit.{bit, flip, Lowest}
 use Rattle.bits.specs.Laws.{bit-cases, bit-none, clash}
-use Rattle.cube_math.specs.Masks.{less}
+use Rattle.cube_math.specs.Masks.{at, less}
 use Rattle.cube_math.specs.Choose.{less-on, less-or}
 use Rattle.cube_math.specs.Plain.{bit-full}
 use Rattle.cube_math.specs.First.{part-all}
 use Rattle.two_math.specs.Shut.{Opening, opening-none, opening-more, opening-left}
-use Rattle.two_choose.specs.Masks.{at}
 
 -- ---- the blocks behind the gates
 

@@ -13,7 +13,7 @@ use Rattle.bits.specs.Bit.{bit, flip, Lowest, OneBit}
 use Rattle.bits.specs.Laws.{bit-cases, bit-none, bit-on, bit-off, clash, flip-other, bit-pow-same, pow-bit, ones-clear}
 use Rattle.scan.specs.Laws.{true-false}
 use Rattle.cube_math.specs.Paths.{flip-eq}
-use Rattle.cube_math.specs.Masks.{less, some-bit}
+use Rattle.cube_math.specs.Masks.{at, less, some-bit}
 use Rattle.cube_math.specs.Choose.{Chosen, Used, cleared, less-on, less-or}
 use Rattle.cube_math.specs.Plain.{bit-full, full-below}
 use Rattle.cube_math.specs.Loops.{plus-or}
@@ -21,10 +21,6 @@ use Rattle.two.specs.Digits.{xor-flip, flip-is-xor}
 use Rattle.two_math.specs.Sort.{Behind, Shared}
 use Rattle.two_gate.specs.Says.{Tells, tells-no, tells-yes, Small}
 use Rattle.two_math.specs.Loops.{chosen-yes, chosen-no, Using, using-more, Classing, classing-new, classing-old}
-
--- the value of index j
-abbrev pub at : List ℕ → ℕ → ℕ
-at l j = getD l j 0
 
 -- the indices below k whose value is v
 abbrev pub Equals : List ℕ → ℕ → ℕ → ℕ → Type 0

@@ -9,6 +9,7 @@ use lib.ListN.{length, getD}
 use lib.Count.{ones, ones-ones}
 use lib.Pow.{pow-mono}
 use lib.Bits.{bitXor}
+use Rattle.cube_math.specs.Masks.{at}
 use Rattle.bits.specs.Bit.{bit, flip, Lowest}
 use Rattle.bits.specs.Laws.{clash, xor-zero-eq}
 use Rattle.cube_math.specs.Doors.{Walk, Way, Doors}
@@ -21,7 +22,6 @@ use Rattle.two_math.specs.Gates.{Gates}
 use Rattle.two_math.specs.Shut.{block-request}
 use Rattle.two_math.specs.Loops.{door-of}
 use Rattle.two_choose.specs.declared.Choice.{Choice}
-use Rattle.two_choose.specs.Masks.{at}
 use Rattle.two_choose.specs.Chosen.{Asks, Chose}
 use Rattle.two_takeover.specs.declared.Taken.{Taken}
 use Rattle.two_takeover.specs.Over.{Crowds}

@@ -7,12 +7,12 @@ use native.Mathlib.Omega.{arith}
 use lib.ListN.{length, getD}
 use lib.Count.{ones, ones-ones}
 use lib.Pow.{pow-mono}
+use Rattle.cube_math.specs.Masks.{at}
 use Rattle.paths.specs.Fan as fan
 use Rattle.cube_math.specs.Doors.{Doors}
 use Rattle.cube_math.specs.Choose.{Chosen}
 use Rattle.two_math.specs.Assemble.{most}
 use Rattle.two_choose.specs.declared.Choice.{Choice}
-use Rattle.two_choose.specs.Masks.{at}
 use Rattle.two_choose.specs.Chosen.{Asks}
 use Rattle.two_takeover.specs.declared.Taken as taken
 use Rattle.two_write.specs.Row.{hops}

@@ -8,8 +8,8 @@ use native.Mathlib.Omega.{arith}
 use native.Mathlib.Decide.{ℕ-discrete}
 use lib.ListN.{length, getD, set, length-set}
 use lib.Seq.{getD-set-same, getD-set-other}
+use Rattle.cube_math.specs.Masks.{at}
 use Rattle.scan.specs.Laws.{true-false}
-use Rattle.two_choose.specs.Masks.{at}
 
 -- a new array holds 0
 unfoldable pub allZero : List ℕ → Bool

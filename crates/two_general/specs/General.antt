@@ -6,10 +6,10 @@ use mathlib.Core.List.{List}
 use native.Mathlib.Omega.{arith}
 use lib.ListN.{length, getD}
 use lib.Pow.{pow-mono, pow-pos}
+use Rattle.cube_math.specs.Masks.{at}
 use Rattle.two.specs.Two.{two}
 use Rattle.two_math.specs.Assemble.{most}
 use Rattle.two_math.specs.Numbers.{block, slot}
-use Rattle.two_choose.specs.Masks.{at}
 use Rattle.two_write.specs.Rows.{Ready, Drawn}
 use Rattle.two_general.specs.Filled.{Filled}
 use Rattle.two_general.specs.Whole.{Painted, targets-ask, painted-fan}

@@ -8,6 +8,7 @@ use native.Mathlib.Omega.{arith}
 use native.Mathlib.Decide.{ℕ-discrete}
 use lib.ListN.{length, getD, take}
 use lib.Count.{ones, ones-ones}
+use Rattle.cube_math.specs.Masks.{at}
 use Rattle.bits.specs.Bit.{bit, flip}
 use Rattle.bits.specs.Laws.{bit-cases, clash, lt-or-le}
 use Rattle.cube_math.specs.Doors.{Walk, Doors}
@@ -22,7 +23,6 @@ use Rattle.two_math.specs.Roles.{drafted, heads-request}
 use Rattle.two_math.specs.Someone.{someone, few-walk}
 use Rattle.two_math.specs.Loops.{last}
 use Rattle.two_choose.specs.declared.Choice.{Choice}
-use Rattle.two_choose.specs.Masks.{at}
 use Rattle.two_takeover.specs.declared.Taken as taken
 use Rattle.two_write.specs.Row.{hops}
 use Rattle.two_rows.specs.Rows.{Ask}

@@ -10,6 +10,7 @@ use native.Mathlib.Omega.{arith}
 use lib.ListN.{length, getD, take, length-take, length-append}
 use lib.Seq.{take-all, take-at, getD-take}
 use lib.Pow.{pow-pos, pow-mono}
+use Rattle.cube_math.specs.Masks.{at}
 use Rattle.bits.specs.Bit.{bit, flip}
 use Rattle.bits.specs.Laws.{bit-cases, clash, flip-flip, flip-lt}
 use Rattle.paths.specs.Lists.{in-at}
@@ -24,7 +25,6 @@ use Rattle.two_math.specs.Gates.{Near}
 use Rattle.two_math.specs.Crowd.{met, met-gate}
 use Rattle.two_math.specs.Loops.{last, crosses-last, walk-last}
 use Rattle.two_choose.specs.declared.Choice.{Choice}
-use Rattle.two_choose.specs.Masks.{at}
 use Rattle.two_choose.specs.Choice.{near-below}
 use Rattle.two_takeover.specs.declared.Taken as taken
 use Rattle.two_takeover.specs.TakeOver.{Takes}

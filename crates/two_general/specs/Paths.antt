@@ -12,6 +12,7 @@ use lib.Dec.{eqb}
 use lib.Count.{ones, ones-ones}
 use lib.Pow.{pow-mono}
 use borrow.Author.Tests.{eqb-true, eqb-false, eq-eqb, ne-eqb, not-true, not-false}
+use Rattle.cube_math.specs.Masks.{at}
 use Rattle.bits.specs.Bit.{bit}
 use Rattle.bits.specs.Laws.{bit-cases, clash}
 use Rattle.scan.specs.Laws.{true-false}
@@ -26,7 +27,6 @@ use Rattle.two_math.specs.Numbers.{numbers, length-numbers}
 use Rattle.two_math.specs.Assemble.{most}
 use Rattle.two_math.specs.Plan.{Role}
 use Rattle.two_choose.specs.declared.Choice.{Choice}
-use Rattle.two_choose.specs.Masks.{at}
 use Rattle.two_takeover.specs.declared.Taken as taken
 use Rattle.two_write.specs.Row.{hops}
 use Rattle.two_write.specs.Rows.{Drawing, drawing-none, drawing-more, row-room}

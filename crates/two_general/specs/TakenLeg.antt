@@ -7,6 +7,7 @@ use native.Mathlib.Nat.{mul-le-mul-right, mul-suc, mul-comm}
 use native.Mathlib.Omega.{arith}
 use lib.ListN.{length, getD, take, length-take, length-append}
 use lib.Seq.{take-at}
+use Rattle.cube_math.specs.Masks.{at}
 use Rattle.bits.specs.Bit.{bit, flip}
 use Rattle.bits.specs.Laws.{flip-flip}
 use Rattle.cube_math.specs.Doors.{In, Way}
@@ -20,7 +21,6 @@ use Rattle.two_math.specs.Gates.{Near}
 use Rattle.two_math.specs.Crowd.{met, met-gate}
 use Rattle.two_math.specs.Loops.{last, crosses-last}
 use Rattle.two_choose.specs.declared.Choice.{Choice}
-use Rattle.two_choose.specs.Masks.{at}
 use Rattle.two_takeover.specs.declared.Taken as taken
 use Rattle.two_takeover.specs.TakeOver.{Takes}
 use Rattle.two_write.specs.Slots.{Below}

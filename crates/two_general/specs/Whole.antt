@@ -8,6 +8,7 @@ use native.Mathlib.Omega.{arith}
 use lib.ListN.{length, getD}
 use lib.Count.{ones, ones-ones}
 use borrow.Author.Tests.{eq-eqb, ne-eqb}
+use Rattle.cube_math.specs.Masks.{at}
 use Rattle.bits.specs.Bit.{bit}
 use Rattle.bits.specs.Laws.{bit-cases, lt-or-le}
 use Rattle.paths.specs.Mesh.{Mesh, width}
@@ -23,7 +24,6 @@ use Rattle.two_math.specs.Roles.{drafted, finished}
 use Rattle.two_math.specs.Assemble.{most, TwoFan}
 use Rattle.two_math.specs.Numbers.{numbers, block, slot, numbers-fan, ask-numbers, slot-below}
 use Rattle.two_choose.specs.declared.Choice.{Choice}
-use Rattle.two_choose.specs.Masks.{at}
 use Rattle.two_choose.specs.Chosen.{Asks}
 use Rattle.two_takeover.specs.declared.Taken as taken
 use Rattle.two_write.specs.Row.{hops}

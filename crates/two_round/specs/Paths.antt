@@ -9,13 +9,13 @@ use native.Mathlib.Omega.{arith}
 use native.Mathlib.Decide.{ℕ-discrete}
 use lib.ListN.{length, getD, take, set, length-take}
 use lib.Seq.{sets, take-all}
+use Rattle.cube_math.specs.Masks.{at}
 use Rattle.bits.specs.Bit.{flip}
 use Rattle.bits.specs.Laws.{lt-or-le}
 use Rattle.paths.specs.Mesh.{width}
 use Rattle.cube_math.specs.Doors.{Doors}
 use Rattle.cube_math.specs.Plain.{bit-full}
 use Rattle.two_write.specs.Row.{hops, hops-length}
-use Rattle.two_rows.specs.Rows.{at}
 use Rattle.two.specs.Two.{two, blockOf, slotOf}
 use Rattle.two_math.specs.Relays.{Relay, inside, length-inside}
 use Rattle.two_math.specs.Through.{Crosses}

@@ -11,6 +11,7 @@ use lib.ListN.{length, getD, set, length-set}
 use lib.Pow.{pow-pos}
 use lib.Seq.{getD-set-same, getD-set-other}
 use borrow.Author.Count.{below-more}
+use Rattle.cube_math.specs.Masks.{at}
 use Rattle.bits.specs.Bit.{bit}
 use Rattle.bits.specs.Laws.{bit-none, clash, lt-or-le, ones-zero}
 use Rattle.paths.specs.Lists.{in-at}
@@ -20,7 +21,7 @@ use Rattle.cube_math.specs.Plain.{bit-full, bit-high, full-below}
 use Rattle.cube_math.specs.Request.{Request}
 use Rattle.two_write.specs.Row.{hops}
 use Rattle.two_rows.specs.Rows as rows
-use Rattle.two_rows.specs.Rows.{at, Gives}
+use Rattle.two_rows.specs.Rows.{Gives}
 use Rattle.two.specs.Two.{two, blockOf, slotOf}
 use Rattle.two_math.specs.Sort.{Ask}
 use Rattle.two_math.specs.Numbers.{ask-numbers}

@@ -13,6 +13,7 @@ use lib.Dec.{eqb}
 use borrow.Author.Tests.{eq-eqb}
 use lib.Bits.{bitXor, xor-lt}
 use lib.Count.{ones}
+use Rattle.cube_math.specs.Masks.{at}
 use Rattle.bits.specs.Bit.{bit, flip, Lowest}
 use Rattle.bits.specs.Laws.{bit-none, bit-on, clash, flip-lt, flip-other, lt-or, ones-clear, xor-zero-eq}
 use Rattle.cube_math.specs.Doors.{In, Fresh, Walk}
@@ -28,9 +29,6 @@ use Rattle.two_math.specs.Crowd.{Cut}
 use Rattle.two_math.specs.Loops.{Strolling, strolling-none, strolling-more, strolling-short, Unhit, unhit-none, unhit-more, strolling-cut, last, walk-split, walk-hop, door-of}
 use Rattle.two_gate.specs.Says.{Tells, tells-no, tells-yes}
 use Rattle.two_write.specs.Walked.{Next}
-
-abbrev pub at : List ℕ → ℕ → ℕ
-at l j = getD l j 0
 
 -- ---- the crowd
 

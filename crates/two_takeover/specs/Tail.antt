@@ -7,13 +7,14 @@ use native.Mathlib.Omega.{arith}
 use native.Mathlib.Numerals.{add-one}
 use lib.ListN.{length, getD, set, take, length-set, length-append}
 use lib.Seq.{take-suc-set}
+use Rattle.cube_math.specs.Masks.{at}
 use Rattle.bits.specs.Bit.{bit, flip}
 use Rattle.bits.specs.Laws.{flip-lt}
 use Rattle.cube_math.specs.Single.{rank, rank-less}
 use Rattle.two_math.specs.Crowd.{Cut}
 use Rattle.two_math.specs.Loops.{Strolling, strolling-none, strolling-more, strolling-short, Unhit, unhit-none, unhit-more, strolling-cut}
 use Rattle.two_write.specs.Walked.{Next, dim-below}
-use Rattle.two_takeover.specs.Over.{at, Meets, Hit, Met}
+use Rattle.two_takeover.specs.Over.{Meets, Hit, Met}
 
 -- what may be asked: towards the slot `to` of a gated target of b
 pub record TailAsk (m k : ℕ) (tb tp gate : ℕ → ℕ) (gated b enter to : ℕ) : Type 0 where

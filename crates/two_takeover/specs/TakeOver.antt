@@ -5,10 +5,11 @@ use mathlib.Core.Logic.{inr, _≢_}
 use mathlib.Core.List.{List, _∷_}
 use native.Mathlib.Omega.{arith}
 use lib.ListN.{length, take}
+use Rattle.cube_math.specs.Masks.{at}
 use Rattle.bits.specs.Bit.{bit, flip}
 use Rattle.cube_math.specs.Doors.{Walk}
 use Rattle.two_write.specs.Row.{hops}
-use Rattle.two_takeover.specs.Over.{at, Crowds, CrowdBy, LastAsk, Enters}
+use Rattle.two_takeover.specs.Over.{Crowds, CrowdBy, LastAsk, Enters}
 use Rattle.two_takeover.specs.Tail.{TailAsk, Tailed}
 
 pub record OverAsk (m s0 p0 k : ℕ) (blocks slots gates : List ℕ) (gated reps : ℕ) (g : List ℕ) : Type 0 where

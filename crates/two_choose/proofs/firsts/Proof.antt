@@ -3,8 +3,9 @@ use mathlib.Core.Path.{_≡_, sym, subst, _∙_}
 use Prim.Native.Nat.{ℕ}
 use lib.Count.{ones}
 use borrow.Author.Tests.{eqb-true, eqb-false}
+use Rattle.cube_math.specs.Masks.{at}
 use Rattle.two_math.specs.Loops.{Classing, classing-none, classing-done}
-use Rattle.two_choose.specs.Masks.{at, class-new, class-old, classing-next, fewer}
+use Rattle.two_choose.specs.Masks.{class-new, class-old, classing-next, fewer}
 use borrow.Author.Needs.{needs}
 use Rattle.two_choose.proofs.firsts.Statement.{statement}
 use Rattle.two_choose.proofs.firsts.Tie as tie

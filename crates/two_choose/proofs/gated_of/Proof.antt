@@ -2,8 +2,9 @@
 use Prim.Native.Nat.{ℕ, _≤_, _-_, _+_}
 use mathlib.Core.Path.{_≡_, sym, subst}
 use native.Mathlib.Omega.{arith}
+use Rattle.cube_math.specs.Masks.{at}
 use Rattle.two_math.specs.Loops.{chosen-none}
-use Rattle.two_choose.specs.Masks.{at, chosen-added}
+use Rattle.two_choose.specs.Masks.{chosen-added}
 use Rattle.two_choose.specs.Choice.{Gated, not-gated}
 use borrow.Author.Needs.{needs}
 use Rattle.two_choose.proofs.gated_of.Statement.{statement}

@@ -1,5 +1,5 @@
 -- `two_sort::is_gated` meets its contract. Assumes nothing.
-use Rattle.two_choose.specs.Masks.{at}
+use Rattle.cube_math.specs.Masks.{at}
 use Rattle.two_choose.specs.Choice.{gated-home, gated-shared, gated-behind}
 use borrow.Author.Needs.{needs}
 use Rattle.two_choose.proofs.is_gated.Statement.{statement}

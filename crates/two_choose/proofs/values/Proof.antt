@@ -2,9 +2,10 @@
 use mathlib.Core.Path.{_≡_, refl, subst}
 use Prim.Native.Nat.{ℕ}
 use lib.Count.{ones}
+use Rattle.cube_math.specs.Masks.{at}
 use Rattle.cube_math.specs.Choose.{Used}
 use Rattle.two_math.specs.Loops.{Using, using-none, using-done}
-use Rattle.two_choose.specs.Masks.{at, using-or, fewer}
+use Rattle.two_choose.specs.Masks.{using-or, fewer}
 use borrow.Author.Needs.{needs}
 use Rattle.two_choose.proofs.values.Statement.{statement}
 use Rattle.two_choose.proofs.values.Tie as tie

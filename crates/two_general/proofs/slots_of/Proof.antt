@@ -4,7 +4,7 @@ use mathlib.Core.Path.{_≡_, refl, sym, subst, _∙_, ap}
 use mathlib.Core.List.{List}
 use native.Mathlib.Omega.{arith}
 use lib.ListN.{length, getD}
-use Rattle.two_choose.specs.Masks.{at}
+use Rattle.cube_math.specs.Masks.{at}
 use Rattle.two_general.specs.Filled.{Filled, allZero, filled-none, filled-more, filled-all, small-rest}
 use borrow.Author.Needs.{needs}
 use Rattle.two_general.proofs.slots_of.Statement.{statement}

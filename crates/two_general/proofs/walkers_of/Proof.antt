@@ -5,9 +5,10 @@ use mathlib.Core.Logic.{_≢_}
 use mathlib.Core.List.{List}
 use native.Mathlib.Omega.{arith}
 use borrow.Author.Tests.{eqb-true, eqb-false, not-true, not-false}
+use Rattle.cube_math.specs.Masks.{at}
 use Rattle.cube_math.specs.Choose.{Chosen}
 use Rattle.two_math.specs.Loops.{chosen-none}
-use Rattle.two_choose.specs.Masks.{at, added, chosen-added}
+use Rattle.two_choose.specs.Masks.{added, chosen-added}
 use borrow.Author.Needs.{needs}
 use Rattle.two_general.proofs.walkers_of.Statement.{statement}
 use Rattle.two_general.proofs.walkers_of.Tie as tie

@@ -2,7 +2,8 @@
 use Prim.Native.Nat.{ℕ, _≤_, _<_, _-_}
 use mathlib.Core.Path.{_≡_, refl}
 use native.Mathlib.Omega.{arith}
-use Rattle.two_takeover.specs.Over.{at, Meets, meets-to, none-more}
+use Rattle.cube_math.specs.Masks.{at}
+use Rattle.two_takeover.specs.Over.{Meets, meets-to, none-more}
 use borrow.Author.Needs.{needs}
 use Rattle.two_takeover.proofs.met.Statement.{statement}
 use Rattle.two_takeover.proofs.met.Tie as tie

@@ -2,9 +2,9 @@
 use mathlib.Core.Path.{refl}
 use lib.ListN.{length-set}
 use native.Mathlib.Omega.{arith}
+use Rattle.cube_math.specs.Masks.{at}
 use Rattle.cube_math.specs.Single.{rank}
 use Rattle.two_write.specs.Blocks.{order-small}
-use Rattle.two_takeover.specs.Over.{at}
 use Rattle.two_takeover.specs.Tail.{Tailing, tailing-none, tailing-goes, tailing-room, tailing-below, tailing-less, tailing-more, tail-short, tailed-there, tailed-step, who-small}
 use borrow.Author.Needs.{needs}
 use Rattle.two_takeover.proofs.tail_of.Statement.{statement}
