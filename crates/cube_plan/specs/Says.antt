@@ -1,16 +1,16 @@
--- What the two planners of the cube promise: what stands against a request (`faults`), and what comes back and stands in the lent slices
--- afterwards: `Planned` of the requests, and through doors `PlannedThrough`.
+-- What the two planners of the cube promise: what stands against a request (`planAgainst`, `throughAgainst`), and what comes back and stands in the
+-- lent slices afterwards: `Planned` of the requests, and through doors `PlannedThrough`.
 use Prim.Native.Nat.{ℕ, _*_, _^_, _≤_, _<_}
 use mathlib.Core.Path.{_≡_}
 use mathlib.Core.Bool.{Bool, true, not}
-use mathlib.Core.List.{List}
+use mathlib.Core.List.{List, _++_}
 use mathlib.Core.Option.{Option, none}
 use lib.Count.{ones}
 use lib.Dec.{leb, ltb}
 use lib.ListN.{length}
 use Rattle.bits.specs.Bit.{bit, flip}
 use Rattle.scan.specs.Scan.{pick}
-use Rattle.answers.specs.Order.{first, requestFaults}
+use Rattle.answers.specs.Order.{Fault, first, sizeFaults, requestFaults, doorFaults, roomFaults}
 use Rattle.answers.specs.declared.Refusal.{Refusal}
 use Rattle.answers.specs.declared.Checked.{Checked}
 use Rattle.paths.specs.Mesh.{width}
@@ -26,9 +26,21 @@ short n targets places counts = pick (ltb (length places) (length targets * widt
 abbrev pub badDoors : (n doors : ℕ) (targets : List ℕ) → Bool
 badDoors n doors targets = pick (leb (2 ^ n) doors) true (ltb (ones doors) (length targets))
 
--- what stands against a request, where its doors are bad or not
-abbrev pub faults : (n s : ℕ) (targets : List ℕ) (bad : Bool) (places counts : List ℕ) → Option Refusal
-faults n s targets bad places counts = first (requestFaults (not (known n)) (2 ^ n) n s targets bad (short n targets places counts))
+-- what may stand against a request: 1 to 7, then 8; through doors 1 to 7, 11, then 8
+abbrev pub earlyFaults : (n s : ℕ) (targets : List ℕ) → List Fault
+earlyFaults n s targets = sizeFaults (not (known n)) ++ requestFaults (2 ^ n) n s targets
+
+abbrev pub planFaults : (n s : ℕ) (targets places counts : List ℕ) → List Fault
+planFaults n s targets places counts = earlyFaults n s targets ++ roomFaults (short n targets places counts)
+
+abbrev pub throughFaults : (n s doors : ℕ) (targets places counts : List ℕ) → List Fault
+throughFaults n s doors targets places counts = earlyFaults n s targets ++ doorFaults (badDoors n doors targets) ++ roomFaults (short n targets places counts)
+
+abbrev pub planAgainst : (n s : ℕ) (targets places counts : List ℕ) → Option Refusal
+planAgainst n s targets places counts = first (planFaults n s targets places counts)
+
+abbrev pub throughAgainst : (n s doors : ℕ) (targets places counts : List ℕ) → Option Refusal
+throughAgainst n s doors targets places counts = first (throughFaults n s doors targets places counts)
 
 -- each first hop is through an open door, and no path meets a neighbour of s behind a shut one but as its own end
 pub record Through (n s doors : ℕ) (targets places counts : List ℕ) : Type 0 where

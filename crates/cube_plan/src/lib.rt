@@ -1,24 +1,24 @@
 // The planners of the cube: paths from a relay to others that meet nowhere but in it.
 ghost use mathlib.Core.Path.{_≡_};
-ghost use mathlib.Core.Bool.{true, false};
+ghost use mathlib.Core.Bool.{true};
 ghost use Prim.Native.Nat.{_+_, _-_, _*_, _^_, _≤_};
 ghost use lib.Count.{ones};
 ghost use lib.Dec.{leb, ltb};
 ghost use Rattle.scan.specs.Scan.{pick};
 ghost use Rattle.answers.specs.Told.{against};
+ghost use Rattle.answers.specs.Order.{first};
 ghost use Rattle.cube_math.specs.Masks as masks;
 ghost use Rattle.cube.specs.Cube.{cube};
 ghost use Rattle.requests.specs.Planned.{Planned};
-ghost use Rattle.cube_plan.specs.Says.{faults, badDoors, PlannedThrough};
+ghost use Rattle.cube_plan.specs.Says.{earlyFaults, planAgainst, throughAgainst, PlannedThrough};
 ghost use Rattle.cube_plan.specs.Laying.{Asked, Laid};
-ghost use Rattle.cube_plan.specs.Order.{early};
 use answers::Checked;
 use answers::Refusal;
 use cube::Size;
 
 // What stands against a request whatever its doors and the slices lent: 1 to 7.
 fn request(size: Size, source: u64, targets: &[u64]) -> Checked
-    ensures { λ r. ⌜ against r ≡ early (size .0) source (now (targets .entry)) ⌝ }
+    ensures { λ r. ⌜ against r ≡ first (earlyFaults (size .0) source (now (targets .entry))) ⌝ }
 {
     if size.known() {
         return requests::request(cube::power(size.0), size.0, source, targets);
@@ -85,7 +85,7 @@ pub fn plan(
     places: &mut [u64],
     counts: &mut [u64],
 ) -> Checked
-    ensures { λ r. ⌜ Planned (faults (size .0) source (now (targets .entry)) false (now (places .entry)) (now (counts .entry))) (cube (size .0)) source (now (targets .entry)) (now (places .entry)) (now (counts .entry)) r (now (places .exit)) (now (counts .exit)) ⌝ }
+    ensures { λ r. ⌜ Planned (planAgainst (size .0) source (now (targets .entry)) (now (places .entry)) (now (counts .entry))) (cube (size .0)) source (now (targets .entry)) (now (places .entry)) (now (counts .entry)) r (now (places .exit)) (now (counts .exit)) ⌝ }
 {
     let checked = request(size, source, targets);
     if let Checked::Refused(why) = checked {
@@ -105,7 +105,7 @@ pub fn plan_through(
     places: &mut [u64],
     counts: &mut [u64],
 ) -> Checked
-    ensures { λ r. ⌜ PlannedThrough (faults (size .0) source (now (targets .entry)) (badDoors (size .0) doors (now (targets .entry))) (now (places .entry)) (now (counts .entry))) (size .0) source doors (now (targets .entry)) (now (places .entry)) (now (counts .entry)) r (now (places .exit)) (now (counts .exit)) ⌝ }
+    ensures { λ r. ⌜ PlannedThrough (throughAgainst (size .0) source doors (now (targets .entry)) (now (places .entry)) (now (counts .entry))) (size .0) source doors (now (targets .entry)) (now (places .entry)) (now (counts .entry)) r (now (places .exit)) (now (counts .exit)) ⌝ }
 {
     let checked = request(size, source, targets);
     if let Checked::Refused(why) = checked {

@@ -11,10 +11,9 @@ use lib.ListN.{length, take, drop, getD, length-append, List·getD-append}
 use lib.Seq.{getD-take, length-take-le}
 use borrow.Author.Tests.{le-ltb, ltb-true, ltb-false}
 use Rattle.scan.specs.Scan.{pick, count}
-use Rattle.answers.specs.Order.{refuse}
+use Rattle.answers.specs.Order.{refuse, before}
 use Rattle.answers.specs.declared.Refusal.{Refusal}
 use Rattle.answers.specs.declared.Refusal.the-variants.{NoRoom}
-use Rattle.requests.specs.Sound.{before}
 use Rattle.paths.specs.Mesh.{width}
 use Rattle.paths.specs.Fan.{hops}
 use Rattle.paths.specs.Finding.{Finding, clean, found, finding}

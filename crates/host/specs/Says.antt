@@ -1,20 +1,20 @@
 -- What the calls of the region host tell and leave. A refusal is told as number * 256 + place (`codeOf`), and 0 where nothing stands against the call.
 use Prim.Native.Nat.{ℕ, _+_, _*_, _/_, _%_, _≤_}
 use mathlib.Core.Path.{_≡_}
-use mathlib.Core.Bool.{Bool, false, not}
+use mathlib.Core.Bool.{not}
 use mathlib.Core.List.{List, _++_}
 use mathlib.Core.Option.{Option, none, some}
 use lib.Dec.{eqb, ltb}
 use lib.ListN.{length, drop}
 use Rattle.octets.specs.Big.{big}
-use Rattle.answers.specs.Order.{Faults, first, refuse, requestFaults}
+use Rattle.answers.specs.Order.{Fault, first, refuse, readFaults}
 use Rattle.answers.specs.Told.{number, place, leaves}
 use Rattle.answers.specs.declared.Refusal.{Refusal}
 use Rattle.answers.specs.declared.Refusal.the-variants.{NoRoom}
 use Rattle.paths.specs.Mesh.{Mesh, width}
 use Rattle.paths.specs.Fan.{Fan}
 use Rattle.mesh.specs.Kinds.{Kind, kindOf, meshOf}
-use Rattle.mesh.specs.Says.{pairAgainst}
+use Rattle.mesh.specs.Says.{pairAgainst, requestFaultsIn}
 use Rattle.sheet.specs.Format.{HEAD, relaysAt}
 use Rattle.sheet.specs.Total.{bytes}
 
@@ -57,35 +57,20 @@ targetsIn l = relaysAt l 0 (length l / 8)
 abbrev pub most : (m : Mesh) (k : ℕ) → ℕ
 most m k = HEAD + k * (2 + 8 * m .longest)
 
--- faults, and besides that bytes cannot be read
-abbrev pub unreadableToo : Bool → Faults → Faults
-unreadableToo b f = record {
-  unreadable = b;
-  unknown = f .unknown;
-  undistanced = f .undistanced;
-  source = f .source;
-  empty = f .empty;
-  many = f .many;
-  out = f .out;
-  same = f .same;
-  again = f .again;
-  doors = f .doors;
-  room = f .room;
-}
-
 module _ (kind size s : ℕ) where
   -- 1 to 7, and 8 where the largest sheet of so many paths would not fit
-  abbrev pub listFaults : (targets out : List ℕ) → Faults
-  listFaults targets out =
-      requestFaults (not (kindOf kind .known size)) (meshOf kind size .relays) (meshOf kind size .links) s targets false
-      (ltb (length out) (most (meshOf kind size) (length targets)))
+  abbrev pub listFaults : (targets out : List ℕ) → List Fault
+  listFaults targets out = requestFaultsIn (kindOf kind) size s targets (ltb (length out) (most (meshOf kind size) (length targets)))
+
+  -- 10 before these: bytes that are no multiple of 8
+  abbrev pub planFaults : (bytes out : List ℕ) → List Fault
+  planFaults bytes out = readFaults (not (eqb (length bytes % 8) 0)) ++ listFaults (targetsIn bytes) out
 
   abbrev pub listAgainst : (targets out : List ℕ) → Option Refusal
   listAgainst targets out = first (listFaults targets out)
 
-  -- 10 before these: bytes that are no multiple of 8
   abbrev pub planAgainst : (bytes out : List ℕ) → Option Refusal
-  planAgainst bytes out = first (unreadableToo (not (eqb (length bytes % 8) 0)) (listFaults (targetsIn bytes) out))
+  planAgainst bytes out = first (planFaults bytes out)
 
   -- the sheet of a fan stands at the front of what was there
   pub record Answered (targets out out₁ : List ℕ) : Type 0 where

@@ -13,7 +13,7 @@ use Rattle.decimal.specs.Number.{limit}
 use Rattle.decimal.specs.Write.{Put, put-long, put-none, put-then, put-byte, put-as}
 use Rattle.paths.specs.Fan.{hops}
 use Rattle.answers.specs.Told.{number, place}
-use Rattle.answers.specs.Laws.{number-below}
+use Rattle.answers.specs.Laws.{number-few}
 use Rattle.answers.specs.declared.Refusal.{Refusal}
 use Rattle.line.specs.Text.{spaced, lineEnd}
 use Rattle.line.specs.Written.{fanWord, relaysOf, pathText, pathsText, fanText, refusedText, fanRoom, refusedRoom}
@@ -224,7 +224,7 @@ module _ (w : ℕ) (places counts : List ℕ) (small : (i : ℕ) → getD places
   fan-short k h b = omega (arith, length-append (fanWord ++ (spaced (k ∷ []) ++ lineEnd)) (pathsText w places counts k), head-short k h, paths-short k b)
 
 number-small : (why : Refusal) → number why < limit
-number-small why = let h : number why < 20 = leb-false 20 (number why) (number-below why) in omega arith
+number-small why = omega (arith, number-few why)
 
 pub refused-short : (why : Refusal) → place why < limit → length (refusedText why) ≤ refusedRoom
 unfolding spaced

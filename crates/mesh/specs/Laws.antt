@@ -5,7 +5,7 @@
 use Prim.Native.Nat.{ℕ, _^_, _≤_}
 use mathlib.Core.Path.{_≡_, refl, sym, ap, ap₂, _∙_, subst}
 use mathlib.Core.Bool.{Bool, true, false, not}
-use mathlib.Core.List.{List}
+use mathlib.Core.List.{List, _++_}
 use mathlib.Core.Option.{some}
 use mathlib.Core.Logic.{_≢_}
 use native.Mathlib.Omega.{arith}
@@ -15,7 +15,8 @@ use lib.Pow.{pow-mono}
 use borrow.Author.Tests.{eq-eqb, ne-eqb}
 use Rattle.scan.specs.Scan.{pick}
 use Rattle.scan.specs.Laws.{true-false}
-use Rattle.answers.specs.Order.{first, pairFaults, requestFaults}
+use Rattle.answers.specs.Order.{first, sizeFaults, distanceFaults, pairFaults, requestFaults}
+use Rattle.answers.specs.Pairs.{size-known, size-unknown}
 use Rattle.answers.specs.Told.{told, tell}
 use Rattle.answers.specs.declared.Refusal.the-variants.{UnknownSize}
 use Rattle.paths.specs.Mesh.{width}
@@ -90,14 +91,13 @@ module _ (k n : ℕ) (h : known k n ≡ true) where
 -- the flag r is what code has of `known`
 module _ {r : Bool} (K : Kind) (n s : ℕ) (targets : List ℕ) (e : r ≡ K .known n) where
   pub request-known : {relays links : ℕ} → r ≡ true → relays ≡ K .mesh n .relays → links ≡ K .mesh n .links
-      → first (requestFaults false relays links s targets false false) ≡ requestAgainst K n s targets false
+      → first (requestFaults relays links s targets) ≡ requestAgainst K n s targets false
   request-known t p q =
-      ap₂ (λ (x y : ℕ). first (requestFaults false x y s targets false false)) p q
-      ∙ ap (λ (b : Bool). first (requestFaults (not b) (K .mesh n .relays) (K .mesh n .links) s targets false false)) (sym t ∙ e)
+      ap₂ (λ (x y : ℕ). first (requestFaults x y s targets)) p q
+      ∙ size-known (requestFaults (K .mesh n .relays) (K .mesh n .links) s targets) e t
 
   pub request-unknown : r ≡ false → some UnknownSize ≡ requestAgainst K n s targets false
-  request-unknown f =
-      ap (λ (b : Bool). first (requestFaults (not b) (K .mesh n .relays) (K .mesh n .links) s targets false false)) (sym f ∙ e)
+  request-unknown f = size-unknown (requestFaults (K .mesh n .relays) (K .mesh n .links) s targets) e f
 
 -- ---- distance
 
@@ -105,6 +105,6 @@ module _ {r : Bool} (K : Kind) (n s : ℕ) (targets : List ℕ) (e : r ≡ K .kn
 pub cube-distance : (n s t : ℕ) → pick (cube.known n) (told 9 0 0) (told 1 0 0) ≡ distanceTold cubes n s t
 cube-distance n s t = go (cube.known n)
   where
-    go : (b : Bool) → pick b (told 9 0 0) (told 1 0 0) ≡ tell (first (pairFaults (not b) true (cube.cube n .relays) s t false)) 0 (distance (cube.cube n) s t)
+    go : (b : Bool) → pick b (told 9 0 0) (told 1 0 0) ≡ tell (first (sizeFaults (not b) ++ distanceFaults true ++ pairFaults (cube.cube n .relays) s t)) 0 (distance (cube.cube n) s t)
     go true = refl
     go false = refl

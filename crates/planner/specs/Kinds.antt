@@ -18,7 +18,7 @@ use Rattle.mesh.specs.Kinds.{Kind, kindOf, cubes, twos, others, CUBE, TWO}
 use Rattle.mesh.specs.Says.{requestAgainst, short}
 use Rattle.mesh.specs.Laws.{as-cube, as-two, as-other}
 use Rattle.requests.specs.Planned.{Planned, refusal}
-use Rattle.cube_plan.specs.Says.{faults}
+use Rattle.cube_plan.specs.Says.{planAgainst}
 
 -- the promise over a kind
 abbrev pub Over : (K : Kind) (n s : ℕ) (targets places counts : List ℕ) (r : Checked) (places₁ counts₁ : List ℕ) → Type 0
@@ -26,7 +26,7 @@ Over K n s targets places counts r places₁ counts₁ =
     Planned (requestAgainst K n s targets (short (K .mesh n) (length targets) (length places) (length counts))) (K .mesh n) s targets places counts r places₁ counts₁
 
 module _ (k n s : ℕ) (targets places counts : List ℕ) (r : Checked) (places₁ counts₁ : List ℕ) where
-  pub of-cube : k ≡ CUBE → Planned (faults n s targets false places counts) (cube n) s targets places counts r places₁ counts₁ → Over (kindOf k) n s targets places counts r places₁ counts₁
+  pub of-cube : k ≡ CUBE → Planned (planAgainst n s targets places counts) (cube n) s targets places counts r places₁ counts₁ → Over (kindOf k) n s targets places counts r places₁ counts₁
   of-cube e p = subst (λ (K : Kind). Over K n s targets places counts r places₁ counts₁) (as-cube (λ (K : Kind). K) e) p
 
   pub of-two : k ≢ CUBE → k ≡ TWO → Over twos n s targets places counts r places₁ counts₁ → Over (kindOf k) n s targets places counts r places₁ counts₁

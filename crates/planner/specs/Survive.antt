@@ -13,9 +13,9 @@ use Rattle.scan.specs.Scan.{count, has, different}
 use Rattle.paths.specs.Mesh.{Mesh, width}
 use Rattle.paths.specs.Whole.{whole}
 use Rattle.paths.specs.Survive.{fan-survives}
-use Rattle.requests.specs.Planned.{Planned}
+use Rattle.requests.specs.Planned.{Planned, planned-against}
 
 pub plan-survives : {o : Option Refusal} (mesh : Mesh) (s : ℕ) (targets places counts : List ℕ) {r : Checked} (places₁ counts₁ : List ℕ) → Planned o mesh s targets places counts r places₁ counts₁
     → against r ≡ none → (stopped : List ℕ) → has stopped s ≡ false
     → length targets ≤ count (whole (width mesh) places₁ counts₁ stopped) (length targets) + different stopped
-plan-survives mesh s targets places counts places₁ counts₁ p e stopped h = fan-survives mesh s targets places₁ counts₁ (p .fan (sym (p .told) ∙ e)) stopped h
+plan-survives mesh s targets places counts places₁ counts₁ p e stopped h = fan-survives mesh s targets places₁ counts₁ (p .fan (sym (planned-against p) ∙ e)) stopped h

@@ -11,7 +11,6 @@ pub mod Moves
 pub mod Ends
 pub mod Steps
 pub mod Says
-pub mod Refusals
 pub mod Needs
 pub mod Cases
 pub mod Unique

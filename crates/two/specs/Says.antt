@@ -7,7 +7,7 @@ use mathlib.Core.Option.{Option, none, some}
 use lib.Dec.{leb}
 use lib.ListN.{length, drop}
 use Rattle.answers.specs.Told.{Told, tell, leaves}
-use Rattle.answers.specs.Order.{first, sizeFaults, pairFaults}
+use Rattle.answers.specs.Order.{Fault, first, sizeFaults, pairFaults, roomFaults}
 use Rattle.answers.specs.declared.Refusal.{Refusal}
 use Rattle.two.specs.declared.parts.Place.{Place}
 use Rattle.two.specs.declared.parts.Place.the-variants.{At, Refused}
@@ -15,13 +15,19 @@ use Rattle.two.specs.Two.{known, relays, blockOf, slotOf, linked}
 use Rattle.two.specs.Next.{next, hops, route}
 use Rattle.two.specs.Seen.{seen}
 
--- what stands against a source and a target
-unfoldable pub faults : (m s t : ℕ) (room : Bool) → Option Refusal
-faults m s t room = first (pairFaults (not (known m)) false (relays m) s t room)
+-- what may stand against an order: 1; against a source and a target: 1, 2, 5, and 8 where there is no room
+abbrev pub sizeFaultsIn : (m : ℕ) → List Fault
+sizeFaultsIn m = sizeFaults (not (known m))
+
+abbrev pub pairFaultsIn : (m s t : ℕ) (room : Bool) → List Fault
+pairFaultsIn m s t room = sizeFaultsIn m ++ pairFaults (relays m) s t ++ roomFaults room
+
+abbrev pub pairAgainst : (m s t : ℕ) (room : Bool) → Option Refusal
+pairAgainst m s t room = first (pairFaultsIn m s t room)
 
 -- a fact of the order
-unfoldable pub factTold : (m value : ℕ) → Told ℕ
-factTold m value = tell (first (sizeFaults (not (known m)))) 0 value
+abbrev pub factTold : (m value : ℕ) → Told ℕ
+factTold m value = tell (first (sizeFaultsIn m)) 0 value
 
 -- block and slot
 abbrev pub placeTold : Place → Told (ℕ × ℕ)
@@ -29,25 +35,25 @@ placeTold (At b p) = tell none (0, 0) (b .0, p .0)
 placeTold (Refused why) = tell (some why) (0, 0) (0, 0)
 
 -- of a relay alone: relay 0 as the other is never out of range
-unfoldable pub splitTold : (m r : ℕ) → Told (ℕ × ℕ)
-splitTold m r = tell (faults m r 0 false) (0, 0) (blockOf m r, slotOf m r)
+abbrev pub splitTold : (m r : ℕ) → Told (ℕ × ℕ)
+splitTold m r = tell (pairAgainst m r 0 false) (0, 0) (blockOf m r, slotOf m r)
 
-unfoldable pub numberTold : (m r : ℕ) → Told ℕ
-numberTold m r = tell (faults m r 0 false) 0 r
+abbrev pub numberTold : (m r : ℕ) → Told ℕ
+numberTold m r = tell (pairAgainst m r 0 false) 0 r
 
-unfoldable pub linkedTold : (m s t : ℕ) → Told Bool
-linkedTold m s t = tell (faults m s t false) false (linked m s t)
+abbrev pub linkedTold : (m s t : ℕ) → Told Bool
+linkedTold m s t = tell (pairAgainst m s t false) false (linked m s t)
 
-unfoldable pub nextTold : (m s t : ℕ) → Told ℕ
-nextTold m s t = tell (faults m s t false) 0 (next m s t)
+abbrev pub nextTold : (m s t : ℕ) → Told ℕ
+nextTold m s t = tell (pairAgainst m s t false) 0 (next m s t)
 
-unfoldable pub seenTold : (m s t : ℕ) → Told ℕ
-seenTold m s t = tell (faults m s t false) 0 (seen m s t)
+abbrev pub seenTold : (m s t : ℕ) → Told ℕ
+seenTold m s t = tell (pairAgainst m s t false) 0 (seen m s t)
 
 -- the hops, where n places are lent
-unfoldable pub routeTold : (m s t n : ℕ) → Told ℕ
-routeTold m s t n = tell (faults m s t (leb n (hops m s t))) 0 (hops m s t)
+abbrev pub routeTold : (m s t n : ℕ) → Told ℕ
+routeTold m s t n = tell (pairAgainst m s t (leb n (hops m s t))) 0 (hops m s t)
 
 -- what the lent slice holds afterwards
-unfoldable pub routeLeaves : (m s t : ℕ) (out : List ℕ) → List ℕ
-routeLeaves m s t out = leaves (faults m s t (leb (length out) (hops m s t))) out (route m s t ++ drop (hops m s t + 1) out)
+abbrev pub routeLeaves : (m s t : ℕ) (out : List ℕ) → List ℕ
+routeLeaves m s t out = leaves (pairAgainst m s t (leb (length out) (hops m s t))) out (route m s t ++ drop (hops m s t + 1) out)

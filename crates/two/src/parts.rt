@@ -4,7 +4,7 @@ ghost use mathlib.Core.Bool.{false};
 ghost use Prim.Native.Nat.{_≤_};
 ghost use Rattle.answers.specs.Told.{answerTold, against};
 ghost use Rattle.two.specs.Two as specs;
-ghost use Rattle.two.specs.Says.{faults, placeTold, splitTold, numberTold};
+ghost use Rattle.two.specs.Says.{pairAgainst, placeTold, splitTold, numberTold};
 ghost use Rattle.two.specs.Needs.{Placed};
 use crate::sizes;
 use crate::sizes::Order;
@@ -66,7 +66,7 @@ pub fn named(order: Order, block: Block, slot: Slot) -> u64
 
 // What stands against a source and a target, the first of 1, 2, 5: of relay 8 as the source in order 1 it is 2.
 pub fn checked(order: Order, source: u64, target: u64) -> Checked
-    ensures { λ r. ⌜ against r ≡ faults (order .0) source target false ⌝ }
+    ensures { λ r. ⌜ against r ≡ pairAgainst (order .0) source target false ⌝ }
 {
     if !order.known() {
         return Checked::Refused(Refusal::UnknownSize);

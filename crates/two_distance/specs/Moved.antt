@@ -3,22 +3,24 @@
 use Prim.Native.Nat.{ℕ, zero, suc, _+_, _^_, _≤_, _<_}
 use mathlib.Core.Path.{_≡_, sym, ap, ap₂, _∙_, subst}
 use mathlib.Core.Bool.{Bool, false, not}
-use mathlib.Core.Option.{some}
+use mathlib.Core.List.{_++_}
+use mathlib.Core.Option.{Option, some}
 use native.Mathlib.Omega.{arith}
 use lib.Dec.{ltb}
 use lib.Pow.{pow-pos}
 use borrow.Author.Tests.{lt-ltb, le-ltb}
-use Rattle.answers.specs.Order.{first, pairFaults}
+use Rattle.answers.specs.Order.{first, sizeFaults, distanceFaults, pairFaults}
+use Rattle.answers.specs.declared.Refusal.{Refusal}
 use Rattle.answers.specs.declared.Refusal.the-variants.{UnknownSize, NoDistance}
 use Rattle.two.specs.Two.{known, relays, two}
 use Rattle.two.specs.Seen.{seen}
 use Rattle.two.specs.Moves.{unseen, seen-below, seen-home, seen-linked, unseen-below, unseen-seen, unseen-linked}
 use Rattle.two.specs.Parts.{bounds-known, high-unknown}
-use Rattle.two.specs.Says as two-told
+use Rattle.two.specs.Says.{pairAgainst}
 use Rattle.two_distance.specs.Ways.{Way, Shortest, distance, shortest-distance, way-map}
 use Rattle.two_distance.specs.Tables.{entry}
 use Rattle.two_distance.specs.Tested.{top, entry-shortest, entry-top}
-use Rattle.two_distance.specs.Says.{faults}
+use Rattle.two_distance.specs.Says.{distanceAgainst}
 
 -- ---- from relay 0 to any source, for every order
 
@@ -58,16 +60,19 @@ module _ (m s t : ℕ) (low : 1 ≤ m) (high : m ≤ 3) (hs : s < relays m) (ht 
 
 -- ---- refusals
 
+-- the faults by the order's two tests
+by-tests : (m s t : ℕ) (known undistanced : Bool) → Option Refusal
+by-tests m s t known undistanced = first (sizeFaults (not known) ++ distanceFaults undistanced ++ pairFaults (relays m) s t)
+
 module _ (m s t : ℕ) where
-  pub faults-near : m ≤ 3 → faults m s t ≡ two-told.faults m s t false
-  unfolding faults two-told.faults
-  faults-near h = ap (λ (x : Bool). first (pairFaults (not (known m)) x (relays m) s t false)) (le-ltb 3 m h)
+  pub distance-near : m ≤ 3 → distanceAgainst m s t ≡ pairAgainst m s t false
+  unfolding by-tests
+  distance-near h = ap (by-tests m s t (known m)) (le-ltb 3 m h)
 
-  pub faults-far : 3 < m → m ≤ 5 → faults m s t ≡ some NoDistance
-  unfolding faults
-  faults-far h g =
-      ap₂ (λ (x y : Bool). first (pairFaults (not x) y (relays m) s t false)) (bounds-known m (omega arith) g) (lt-ltb 3 m h)
+  pub distance-far : 3 < m → m ≤ 5 → some NoDistance ≡ distanceAgainst m s t
+  unfolding by-tests
+  distance-far h g = sym (ap₂ (by-tests m s t) (bounds-known m (omega arith) g) (lt-ltb 3 m h))
 
-  pub faults-unknown : 5 < m → faults m s t ≡ some UnknownSize
-  unfolding faults
-  faults-unknown h = ap (λ (x : Bool). first (pairFaults (not x) (ltb 3 m) (relays m) s t false)) (high-unknown m h)
+  pub distance-unknown : 5 < m → some UnknownSize ≡ distanceAgainst m s t
+  unfolding by-tests
+  distance-unknown h = sym (ap (λ (x : Bool). by-tests m s t x (ltb 3 m)) (high-unknown m h))

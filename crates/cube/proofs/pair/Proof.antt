@@ -1,6 +1,5 @@
 -- `cube::pair` meets its contract: each fault is told where none before it stands. Assumes nothing.
 use Prim.Native.Nat.{_^_}
-use mathlib.Core.Bool.{false}
 use native.Mathlib.Omega.{arith}
 use borrow.Author.Needs.{needs}
 use Rattle.answers.specs.Pairs.{pair-unknown, pair-source, pair-target, pair-fine}
@@ -18,25 +17,25 @@ returns : tie.Need-returns
 returns c =
     let k = c .before .before .before in
     let a = k .before .args in
-    pair-source (2 ^ a .size .0) (a .source) (a .target) false (k .known .ensures) (c .before .before .if1 .taken) (omega arith)
+    pair-source (2 ^ a .size .0) (a .source) (a .target) (k .known .ensures) (c .before .before .if1 .taken) (omega arith)
 
 returns-2 : tie.Need-returns-2
 returns-2 c =
     let k = c .before .before .before .before in
     let a = k .before .args in
-    pair-target (2 ^ a .size .0) (a .source) (a .target) false (k .known .ensures) (c .before .before .before .if1 .taken) (omega arith) (omega arith)
+    pair-target (2 ^ a .size .0) (a .source) (a .target) (k .known .ensures) (c .before .before .before .if1 .taken) (omega arith) (omega arith)
 
 returns-3 : tie.Need-returns-3
 returns-3 c =
     let k = c .before .before .before .before in
     let a = k .before .args in
-    pair-fine (2 ^ a .size .0) (a .source) (a .target) false (k .known .ensures) (c .before .before .before .if1 .taken) (omega arith) (omega arith)
+    pair-fine (2 ^ a .size .0) (a .source) (a .target) (k .known .ensures) (c .before .before .before .if1 .taken) (omega arith) (omega arith)
 
 returns-4 : tie.Need-returns-4
 returns-4 c =
     let k = c .before in
     let a = k .before .args in
-    pair-unknown (2 ^ a .size .0) (a .source) (a .target) false (k .known .ensures) (c .if1 .left)
+    pair-unknown (2 ^ a .size .0) (a .source) (a .target) (k .known .ensures) (c .if1 .left)
 
 pub pair-spec : {M : Type 1} → statement M
 pair-spec = tie.close (tie.spec known-requires power-requires returns returns-2 returns-3 returns-4)

@@ -1,4 +1,4 @@
--- `cube_fan::bad_doors` meets its contract. Assumes nothing.
+-- `cube_plan::bad_doors` meets its contract. Assumes nothing.
 use Prim.Native.Nat.{_^_, _≤_, _<_}
 use native.Mathlib.Omega.{arith}
 use lib.Count.{ones-le}

@@ -1,4 +1,4 @@
--- `cube_fan::lay` meets its contract: 8 where there is no room, and otherwise what `cube_plan` gives. Assumes nothing.
+-- `cube_plan::lay` meets its contract: 8 where there is no room, and otherwise what `cube_plan` gives. Assumes nothing.
 use mathlib.Core.Path.{refl, sym, _∙_}
 use native.Mathlib.Omega.{arith}
 use Rattle.cube_plan.specs.Laying.{short-is, no-room, sought, laid-out}

@@ -1,4 +1,4 @@
--- `cube_fan::others` meets its contract. Assumes nothing.
+-- `cube_plan::others` meets its contract. Assumes nothing.
 use mathlib.Core.Path.{ap, _∙_}
 use Prim.Native.Nat.{ℕ, _-_}
 use native.Mathlib.Omega.{arith}

@@ -1,6 +1,5 @@
--- `cube_fan::plan` meets its contract: what `request` refuses, or what `lay` gives with no door shut. Assumes nothing.
+-- `cube_plan::plan` meets its contract: what `request` refuses, or what `lay` gives with no door shut. Assumes nothing.
 use mathlib.Core.Path.{sym, ap, _∙_}
-use mathlib.Core.Bool.{false}
 use Rattle.answers.specs.Told.{against}
 use Rattle.cube_plan.specs.Order.{asked, plan-refused, plan-laid}
 use borrow.Author.Needs.{needs}
@@ -14,7 +13,7 @@ enum-known-checked : tie.Need-enum-known-checked
 enum-known-checked c = search needs
 
 returns : tie.Need-returns
-returns c = plan-refused _ _ _ _ _ false (sym (c .before .before .before .request .ensures) ∙ ap against (c .before .checked .given .1))
+returns c = plan-refused _ _ _ _ _ (sym (c .before .before .before .request .ensures) ∙ ap against (c .before .checked .given .1))
 
 enum-told : tie.Need-enum-told
 enum-told c = search needs

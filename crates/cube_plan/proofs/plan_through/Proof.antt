@@ -1,4 +1,4 @@
--- `cube_fan::plan_through` meets its contract: what `request` refuses, 11, or what `lay` gives with the other doors shut. Assumes nothing.
+-- `cube_plan::plan_through` meets its contract: what `request` refuses, 11, or what `lay` gives with the other doors shut. Assumes nothing.
 use mathlib.Core.Path.{sym, ap, _∙_}
 use Rattle.answers.specs.Told.{against}
 use Rattle.cube_plan.specs.Order.{asked, asked-through, through-refused, through-bad, through-laid}
@@ -26,7 +26,7 @@ bad-doors-requires c κs =
 returns-2 : tie.Need-returns-2
 returns-2 c =
     let t = c .before .before in
-    through-bad _ _ _ _ _ (sym (t .before .before .request .ensures) ∙ ap against (t .enum-told .given .1)) _ (sym (c .before .bad-doors .ensures) ∙ c .if1 .taken)
+    through-bad _ _ _ _ _ _ (sym (t .before .before .request .ensures) ∙ ap against (t .enum-told .given .1)) (sym (c .before .bad-doors .ensures) ∙ c .if1 .taken)
 
 others-requires : tie.Need-others-requires
 others-requires c κs =
@@ -51,7 +51,7 @@ returns-3 : tie.Need-returns-3
 returns-3 c =
     let o = c .before .before .before .before .before .before .before in
     let t = o .before .before .before in
-    through-laid _ _ _ _ _ (sym (t .before .before .request .ensures) ∙ ap against (t .enum-told .given .1)) _
+    through-laid _ _ _ _ _ _ (sym (t .before .before .request .ensures) ∙ ap against (t .enum-told .given .1))
     (sym (o .before .before .bad-doors .ensures) ∙ o .before .if1 .left) (o .others .ensures) (c .before .before .before .before .lay .ensures)
 
 pub plan-through-spec : {M : Type 1} → statement M

@@ -1,7 +1,10 @@
--- `cube_fan::request` meets its contract: 1 first, then 2 to 7. Assumes nothing.
-use mathlib.Core.Path.{sym, _∙_}
+-- `cube_plan::request` meets its contract: 1 first, then 2 to 7. Assumes nothing.
+use Prim.Native.Nat.{ℕ, _^_}
+use mathlib.Core.Path.{ap, _∙_}
 use native.Mathlib.Omega.{arith}
-use Rattle.cube_plan.specs.Order.{early-known, early-unknown, known-size}
+use Rattle.answers.specs.Order.{first, requestFaults}
+use Rattle.answers.specs.Pairs.{size-known, size-unknown}
+use Rattle.cube.specs.Sizes.{known-most}
 use borrow.Author.Needs.{needs}
 use Rattle.cube_plan.proofs.request.Statement.{statement}
 use Rattle.cube_plan.proofs.request.Tie as tie
@@ -10,7 +13,7 @@ known-requires : tie.Need-known-requires
 known-requires c κs = search needs
 
 power-requires : tie.Need-power-requires
-power-requires c κs = omega (arith, known-size (c .before .before .before .args .size .0) (sym (c .before .known .ensures) ∙ c .if1 .taken))
+power-requires c κs = omega (arith, known-most (c .before .before .before .args .size .0) (c .before .known .ensures) (c .if1 .taken))
 
 request-requires : tie.Need-request-requires
 request-requires c κs = search needs
@@ -18,12 +21,14 @@ request-requires c κs = search needs
 returns : tie.Need-returns
 returns c =
     let a = c .before .before .before .before .before .args in
-    early-known (a .size .0) _ (a .source) (a .targets .now) (sym (c .before .before .before .known .ensures) ∙ c .before .before .if1 .taken) (c .before .power .ensures) (c .request .ensures)
+    let n = a .size .0 in
+    c .request .ensures ∙ ap (λ (p : ℕ). first (requestFaults p n (a .source) (a .targets .now))) (c .before .power .ensures)
+    ∙ size-known (requestFaults (2 ^ n) n (a .source) (a .targets .now)) (c .before .before .before .known .ensures) (c .before .before .if1 .taken)
 
 returns-2 : tie.Need-returns-2
 returns-2 c =
     let a = c .before .before .before .args in
-    early-unknown (a .size .0) (a .source) (a .targets .now) (sym (c .before .known .ensures) ∙ c .if1 .left)
+    size-unknown (requestFaults (2 ^ a .size .0) (a .size .0) (a .source) (a .targets .now)) (c .before .known .ensures) (c .if1 .left)
 
 pub request-spec : {M : Type 1} → statement M
 request-spec =

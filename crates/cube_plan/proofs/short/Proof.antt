@@ -1,4 +1,4 @@
--- `cube_fan::short` meets its contract. Assumes nothing.
+-- `cube_plan::short` meets its contract. Assumes nothing.
 use native.Mathlib.Nat.{mul-le-mul-right}
 use Prim.Native.Nat.{_+_}
 use borrow.Author.Tests.{lt-ltb, le-ltb}

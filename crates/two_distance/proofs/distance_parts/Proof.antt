@@ -1,4 +1,4 @@
--- `hops::distance_parts` meets its contract. Assumes nothing.
+-- `two_distance::distance_parts` meets its contract. Assumes nothing.
 use mathlib.Core.Path.{_∙_, ap₂}
 use borrow.Author.Needs.{needs}
 use Rattle.two_distance.specs.Says.{distanceTold}

@@ -1,4 +1,4 @@
--- `hops::from_zero` meets its contract: the table is that of the order. Assumes nothing.
+-- `two_distance::from_zero` meets its contract: the table is that of the order. Assumes nothing.
 use Prim.Native.Nat.{ℕ, _<_}
 use mathlib.Core.Path.{_≡_, _∙_, sym, ap, subst}
 use borrow.Author.Needs.{needs}

@@ -1,10 +1,9 @@
 -- `two::sizes::Order::links` meets its contract. Assumes nothing.
-use mathlib.Core.Path.{sym, _∙_}
 use borrow.Author.Needs.{needs}
+use Rattle.answers.specs.Pairs.{fact-known, fact-unknown}
 use Prim.Native.Nat.{_+_}
 use native.Mathlib.Omega.{arith}
 use Rattle.two.specs.Parts.{few}
-use Rattle.two.specs.Refusals.{fact-known, fact-unknown}
 use Rattle.two.proofs.sizes.Order.links.Statement.{statement}
 use Rattle.two.proofs.sizes.Order.links.Tie as tie
 
@@ -17,10 +16,10 @@ add-t3 c = omega (arith, few (c .before .before .before .args .self .0) (c .befo
 returns : tie.Need-returns
 returns c =
     let m = c .before .before .before .args .self .0 in
-    sym (fact-known m (m + 1) (sym (c .before .before .known .ensures) ∙ c .before .if1 .taken))
+    fact-known (m + 1) (c .before .before .known .ensures) (c .before .if1 .taken)
 
 returns-2 : tie.Need-returns-2
-returns-2 c = let m = c .before .before .args .self .0 in sym (fact-unknown m (m + 1) (sym (c .before .known .ensures) ∙ c .if1 .left))
+returns-2 c = let m = c .before .before .args .self .0 in fact-unknown (m + 1) (c .before .known .ensures) (c .if1 .left)
 
 pub links-spec : {M : Type 1} → statement M
 links-spec = tie.close (tie.spec known-requires add-t3 returns returns-2)

@@ -1,10 +1,10 @@
 -- `two::sizes::Order::longest` meets its contract. Assumes nothing.
-use mathlib.Core.Path.{sym, ap, _∙_}
+use mathlib.Core.Path.{ap, _∙_}
 use borrow.Author.Needs.{needs}
+use Rattle.answers.specs.Pairs.{fact-known, fact-unknown}
 use Rattle.answers.specs.Told.{told}
 use Rattle.two.specs.Two.{longest}
 use Rattle.two.specs.Parts.{few}
-use Rattle.two.specs.Refusals.{fact-known, fact-unknown}
 use Rattle.two.proofs.sizes.Order.longest.Statement.{statement}
 use Rattle.two.proofs.sizes.Order.longest.Tie as tie
 
@@ -17,10 +17,10 @@ longest-in-requires c κs = few (c .before .before .args .self .0) (c .before .k
 returns : tie.Need-returns
 returns c =
     let m = c .before .before .before .args .self .0 in
-    ap (told 0 0) (c .longest-in .ensures) ∙ sym (fact-known m (longest m) (sym (c .before .before .known .ensures) ∙ c .before .if1 .taken))
+    ap (told 0 0) (c .longest-in .ensures) ∙ fact-known (longest m) (c .before .before .known .ensures) (c .before .if1 .taken)
 
 returns-2 : tie.Need-returns-2
-returns-2 c = let m = c .before .before .args .self .0 in sym (fact-unknown m (longest m) (sym (c .before .known .ensures) ∙ c .if1 .left))
+returns-2 c = let m = c .before .before .args .self .0 in fact-unknown (longest m) (c .before .known .ensures) (c .if1 .left)
 
 pub longest-spec : {M : Type 1} → statement M
 longest-spec = tie.close (tie.spec known-requires longest-in-requires returns returns-2)

@@ -1,12 +1,12 @@
 -- `two::sizes::Order::places` meets its contract. Assumes nothing.
-use mathlib.Core.Path.{sym, ap, _∙_}
+use mathlib.Core.Path.{ap, _∙_}
 use borrow.Author.Needs.{needs}
+use Rattle.answers.specs.Pairs.{fact-known, fact-unknown}
 use Prim.Native.Nat.{ℕ, _+_}
 use native.Mathlib.Omega.{arith}
 use Rattle.answers.specs.Told.{told}
 use Rattle.two.specs.Two.{longest}
 use Rattle.two.specs.Parts.{few, longest-few}
-use Rattle.two.specs.Refusals.{fact-known, fact-unknown}
 use Rattle.two.proofs.sizes.Order.places.Statement.{statement}
 use Rattle.two.proofs.sizes.Order.places.Tie as tie
 
@@ -25,10 +25,10 @@ returns : tie.Need-returns
 returns c =
     let m = c .before .before .before .args .self .0 in
     ap (λ (n : ℕ). told 0 0 (n + 1)) (c .longest-in .ensures)
-    ∙ sym (fact-known m (longest m + 1) (sym (c .before .before .known .ensures) ∙ c .before .if1 .taken))
+    ∙ fact-known (longest m + 1) (c .before .before .known .ensures) (c .before .if1 .taken)
 
 returns-2 : tie.Need-returns-2
-returns-2 c = let m = c .before .before .args .self .0 in sym (fact-unknown m (longest m + 1) (sym (c .before .known .ensures) ∙ c .if1 .left))
+returns-2 c = let m = c .before .before .args .self .0 in fact-unknown (longest m + 1) (c .before .known .ensures) (c .if1 .left)
 
 pub places-spec : {M : Type 1} → statement M
 places-spec = tie.close (tie.spec known-requires longest-in-requires add-t4 returns returns-2)
