@@ -1,4 +1,4 @@
--- Paths and fans over any mesh: what they are, the first finding, and which paths survive. Plain routes over any next hop.
+-- Paths and fans over any mesh: what they are, the first finding, and which paths survive. Plain routes over any next hop, and shortest ways.
 pub mod Mesh
 pub mod Fan
 pub mod Finding
@@ -12,3 +12,5 @@ pub mod Survive
 pub mod Walk
 pub mod Walks
 pub mod Walked
+pub mod Ends
+pub mod Ways

@@ -7,7 +7,7 @@ use Rattle.answers.specs.Told.{Told, tell}
 use Rattle.answers.specs.Order.{first, pairFaults}
 use Rattle.answers.specs.declared.Refusal.{Refusal}
 use Rattle.two.specs.Two.{known, relays, two}
-use Rattle.two_distance.specs.Ways.{distance}
+use Rattle.paths.specs.Ways.{distance}
 
 -- distance is not answered for orders above 3
 unfoldable pub faults : (m s t : ℕ) → Option Refusal

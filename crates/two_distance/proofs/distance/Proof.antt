@@ -8,7 +8,7 @@ use Rattle.two.specs.Two.{relays, two}
 use Rattle.two.specs.Moves.{seen-below}
 use Rattle.two.specs.Parts.{known-bounds}
 use Rattle.two.specs.Refusals.{Fine, fine, tell-value, tell-refusal}
-use Rattle.two_distance.specs.Ways as ways
+use Rattle.paths.specs.Ways as ways
 use Rattle.two_distance.specs.Tables.{entry}
 use Rattle.two_distance.specs.Says.{faults, distanceTold}
 use Rattle.two_distance.specs.Moved.{distance-entry, faults-near, faults-far, faults-unknown}
