@@ -1,12 +1,16 @@
 -- Paths and fans over any mesh: what they are, the first finding, and which paths survive. Plain routes over any next hop, and shortest ways.
 pub mod Mesh
+pub mod Rules
 pub mod Fan
 pub mod Finding
+pub mod Places
 pub mod Lists
 pub mod Read
 pub mod Forced
 pub mod Clear
+pub mod Keeps
 pub mod Judged
+pub mod Alike
 pub mod Whole
 pub mod Survive
 pub mod Walk
