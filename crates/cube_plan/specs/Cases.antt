@@ -7,7 +7,7 @@ use native.Mathlib.Omega.{arith}
 use lib.Count.{ones}
 use Rattle.scan.specs.Scan.{seek, any, among}
 use Rattle.paths.specs.Fan.{filler, relay, hops, Fan}
-use Rattle.paths.specs.Finding.{finding, findingFrom, findingOf, unlinkedAt, seenAt, unfilledAt, unlinked, seen, on, unfilled}
+use Rattle.paths.specs.Finding.{findingBy, findingFrom, findingOf, unlinkedAt, seenAt, unfilledAt, unlinked, seen, twinned, on, unfilled}
 use Rattle.paths.specs.Forced.{Links, other, links, first, onward, arrived, meets}
 use Rattle.paths.specs.Judged.{clean-fan}
 use Rattle.paths.specs.Lists.{Lists}
@@ -48,7 +48,7 @@ module _ {paths : ℕ → List ℕ} (f : Lists (cube 2) 0 targets paths) where
       (first (paths 1) (f .chain 1 (omega arith)) (f .fresh 1 (omega arith)) (λ e. omega arith) of-0)
 
 pub case-g : CaseG
-unfolding finding findingFrom findingOf unlinkedAt seenAt unfilledAt unlinked seen on unfilled relay hops seek any among linked ones
+unfolding findingBy findingFrom findingOf unlinkedAt seenAt unfilledAt unlinked seen twinned on unfilled relay hops seek any among linked ones
 case-g = record {
   is = clean-fan (cube 2) 0 targets (0 ∷ 2 ∷ 3 ∷ filler ∷ 0 ∷ 1 ∷ filler ∷ filler ∷ []) (2 ∷ 1 ∷ []) refl;
   only = λ places counts f. let l = fan-lists (cube 2) 0 targets places counts f in (one l, two l);

@@ -6,6 +6,7 @@ use lib.Dec.{eqb, ltb}
 use lib.ListN.{length, getD}
 use Rattle.scan.specs.Scan.{pick}
 use Rattle.paths.specs.Mesh.{width}
+use Rattle.paths.specs.Whole.{Failed}
 use Rattle.mesh.specs.Kinds.{Kind}
 use Rattle.survivors.specs.Tally.{tallyTold}
 use Rattle.survivors.specs.declared.Tally.{Tally}
@@ -28,9 +29,9 @@ takenOf (tally.Refused why) k = 0
 abbrev pub entryAt : Gathered → ℕ → Entry
 entryAt g i = entryOf (getD (g .ends) i 0) (getD (g .hops) i 0) (eqb (getD (g .wholes) i 0) 1)
 
-pub record Gathers (K : Kind) (n s : ℕ) (targets places counts stopped : List ℕ) (room : ℕ) (g : Gathered) : Type 0 where
-  pub told : tallyTold (g .tally) ≡ listedTold K n s targets places counts stopped room
-  pub taken : g .k ≡ settle K n s targets places counts stopped room (length targets) 0
-  pub each : (i : ℕ) → i < g .k → entryAt g i ≡ pathEntry (width (K .mesh n)) targets places counts stopped i
+pub record Gathers (K : Kind) (n s : ℕ) (targets places counts : List ℕ) (fails : Failed) (room : ℕ) (g : Gathered) : Type 0 where
+  pub told : tallyTold (g .tally) ≡ listedTold K n s targets places counts fails room
+  pub taken : g .k ≡ settle K n s targets places counts fails room (length targets) 0
+  pub each : (i : ℕ) → i < g .k → entryAt g i ≡ pathEntry (width (K .mesh n)) targets places counts fails i
   pub small : g .k ≤ 32
   pub fits : g .k ≤ room

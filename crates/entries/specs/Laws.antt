@@ -17,16 +17,17 @@ use Rattle.answers.specs.declared.Refusal.the-variants.{NoRoom}
 use Rattle.paths.specs.Mesh.{width}
 use Rattle.paths.specs.Fan.{hops}
 use Rattle.paths.specs.Finding.{Finding, clean, found, finding}
-use Rattle.paths.specs.Whole.{whole}
+use Rattle.paths.specs.Whole.{Failed, whole}
 use Rattle.mesh.specs.Kinds.{Kind, kindOf}
 use Rattle.mesh.specs.Laws.{known-small}
 use Rattle.mesh.specs.Says.{requestAgainst, short}
 use Rattle.mesh.specs.Requests.{Fine, request-room, request-fine, request-passed, neither-wanting, room-enough}
 use Rattle.judge.specs.Says.{numberOf, rule, judgeAgainst, verdictTold}
 use Rattle.judge.specs.Numbers.{Numbered, finding-numbered, found-number, refused-number, rule-clean}
+use Rattle.columns.specs.Says.{ahead, marks}
+use Rattle.columns.specs.Laws.{marks-at, marks-length}
 use Rattle.survivors.specs.Tally.{tallied, rulingOf, verdictOf, tallyTold}
-use Rattle.survivors.specs.Says.{ahead, marks, few, settled, lacking, Survived}
-use Rattle.survivors.specs.Columns.{marks-at, marks-length}
+use Rattle.survivors.specs.Says.{few, settled, lacking, Survived}
 use Rattle.survivors.specs.Laws.{settled-is, settled-not}
 use Rattle.survivors.specs.declared.Tally.{Tally}
 use Rattle.survivors.specs.declared.Tally.the-variants as tally
@@ -92,9 +93,9 @@ mark-whole : (b : Bool) → eqb (pick b 1 0) 1 ≡ b
 mark-whole true = refl
 mark-whole false = refl
 
-module _ (w : ℕ) (targets places counts stopped : List ℕ) (i : ℕ) (below : i < length targets) where
+module _ (w : ℕ) (targets places counts : List ℕ) (fails : Failed) (i : ℕ) (below : i < length targets) where
   abbrev test : ℕ → Bool
-  test = whole w places counts stopped
+  test = whole w places counts fails
 
   ended-at : (ends₀ rest : List ℕ) → getD (ahead (length targets) targets ends₀ ++ rest) i 0 ≡ getD targets i 0
   ended-at ends₀ rest =
@@ -133,8 +134,8 @@ capped-most room {m} e = rw e (go (ltb room 32) refl)
 pub capped-length : (room : ℕ) (zeros : List ℕ) {m : ℕ} → length zeros ≡ 32 → m ≡ capped room → length (take m zeros) ≡ m
 capped-length room zeros {m} z e = length-take-le m zeros (omega (arith, capped-most room e, z))
 
-module _ (kind n s : ℕ) (targets places counts stopped : List ℕ) (room m : ℕ) (t : Tally) (zeros ends₁ hops₁ wholes₁ : List ℕ) (z : length zeros ≡ 32) (cap : m ≡ capped room)
-    (p : Survived (kindOf kind) n s targets places counts stopped (take m zeros) (take m zeros) (take m zeros) t ends₁ hops₁ wholes₁) where
+module _ (kind n s : ℕ) (targets places counts : List ℕ) (fails : Failed) (room m : ℕ) (t : Tally) (zeros ends₁ hops₁ wholes₁ : List ℕ) (z : length zeros ≡ 32) (cap : m ≡ capped room)
+    (p : Survived (kindOf kind) n s targets places counts fails (take m zeros) (take m zeros) (take m zeros) t ends₁ hops₁ wholes₁) where
   abbrev K : Kind
   K = kindOf kind
 
@@ -159,8 +160,8 @@ module _ (kind n s : ℕ) (targets places counts stopped : List ℕ) (room m : �
       let long : length (take m zeros) ≡ capped room = capped-length room zeros z cap ∙ cap in
       against-same kind n s targets _ _ (λ h. ap (λ (b : Bool). pick b true cramped) (ap (λ (l : ℕ). few k l l l) long ∙ few-capped k room h))
 
-  told : tallyTold t ≡ listedTold K n s targets places counts stopped room
-  told = p .told ∙ ap (λ (o : Option Refusal). tallied (rule o first) (settled o first (count (whole (width (K .mesh n)) places counts stopped) k) 0)) against
+  told : tallyTold t ≡ listedTold K n s targets places counts fails room
+  told = p .told ∙ ap (λ (o : Option Refusal). tallied (rule o first) (settled o first (count (whole (width (K .mesh n)) places counts fails) k) 0)) against
 
   ruled : verdictTold (verdictOf t) ≡ rule asked first
   ruled = ap rulingOf told
@@ -184,16 +185,16 @@ module _ (kind n s : ℕ) (targets places counts stopped : List ℕ) (room m : �
 
     entry-at : (i : ℕ) → i < k
         → entryOf (getD (ends₁ ++ drop m zeros) i 0) (getD (hops₁ ++ drop m zeros) i 0) (eqb (getD (wholes₁ ++ drop m zeros) i 0) 1)
-        ≡ pathEntry (width (K .mesh n)) targets places counts stopped i
+        ≡ pathEntry (width (K .mesh n)) targets places counts fails i
     entry-at i h =
         let w = width (K .mesh n) in
-        let e = ap (λ (l : List ℕ). getD (l ++ drop m zeros) i 0) (p .ended ∙ given _ _) ∙ ended-at w targets places counts stopped i h (take m zeros) (drop m zeros) in
-        let c = ap (λ (l : List ℕ). getD (l ++ drop m zeros) i 0) (p .hopped ∙ given _ _) ∙ hopped-at w targets places counts stopped i h (room-for .2) (take m zeros) (drop m zeros) in
-        let b = ap (λ (l : List ℕ). eqb (getD (l ++ drop m zeros) i 0) 1) (p .marked ∙ given _ _) ∙ marked-at w targets places counts stopped i h (take m zeros) (drop m zeros) in
+        let e = ap (λ (l : List ℕ). getD (l ++ drop m zeros) i 0) (p .ended ∙ given _ _) ∙ ended-at w targets places counts fails i h (take m zeros) (drop m zeros) in
+        let c = ap (λ (l : List ℕ). getD (l ++ drop m zeros) i 0) (p .hopped ∙ given _ _) ∙ hopped-at w targets places counts fails i h (room-for .2) (take m zeros) (drop m zeros) in
+        let b = ap (λ (l : List ℕ). eqb (getD (l ++ drop m zeros) i 0) 1) (p .marked ∙ given _ _) ∙ marked-at w targets places counts fails i h (take m zeros) (drop m zeros) in
         λ j. entryOf (e j) (c j) (b j)
 
   pub gathered : {r : ℕ} → r ≡ takenOf t k
-      → Gathers K n s targets places counts stopped room (record { tally = t; k = r; ends = ends₁ ++ drop m zeros; hops = hops₁ ++ drop m zeros; wholes = wholes₁ ++ drop m zeros })
+      → Gathers K n s targets places counts fails room (record { tally = t; k = r; ends = ends₁ ++ drop m zeros; hops = hops₁ ++ drop m zeros; wholes = wholes₁ ++ drop m zeros })
   gathered {r} e = record {
     told = told;
     taken = e ∙ taken-settled asked first numbered t k ruled;
@@ -220,12 +221,12 @@ listed-by none clean f g k taken out e h = ap (λ (l : List Entry). l ++ drop ta
 listed-by none (found x i p) f g k taken out e h = ap (λ (j : ℕ). entries f j ++ drop j out) e
 listed-by (some why) a f g k taken out e h = ap (λ (j : ℕ). entries f j ++ drop j out) e
 
-pub listed : (K : Kind) (n s : ℕ) (targets places counts stopped : List ℕ) (out : List Entry) {g : Gathered} {r : Tally} {out₁ : List Entry}
-    → Gathers K n s targets places counts stopped (length out) g → r ≡ g .tally → out₁ ≡ entries (entryAt g) (g .k) ++ drop (g .k) out
-    → Listed K n s targets places counts stopped out r out₁
-listed K n s targets places counts stopped out {g} {r} {out₁} p e f = record {
+pub listed : (K : Kind) (n s : ℕ) (targets places counts : List ℕ) (fails : Failed) (out : List Entry) {g : Gathered} {r : Tally} {out₁ : List Entry}
+    → Gathers K n s targets places counts fails (length out) g → r ≡ g .tally → out₁ ≡ entries (entryAt g) (g .k) ++ drop (g .k) out
+    → Listed K n s targets places counts fails out r out₁
+listed K n s targets places counts fails out {g} {r} {out₁} p e f = record {
   told = ap tallyTold e ∙ p .told;
   listed = f
       ∙ listed-by (judgeAgainst K n s targets places counts (ltb (length out) (length targets))) (finding (K .mesh n) s targets places counts)
-      (entryAt g) (pathEntry (width (K .mesh n)) targets places counts stopped) (length targets) (g .k) out (p .taken) (p .each);
+      (entryAt g) (pathEntry (width (K .mesh n)) targets places counts fails) (length targets) (g .k) out (p .taken) (p .each);
 }

@@ -10,7 +10,7 @@ use Rattle.scan.specs.Scan.{count}
 use Rattle.paths.specs.Mesh.{width}
 use Rattle.paths.specs.Fan.{hops}
 use Rattle.paths.specs.Finding.{finding}
-use Rattle.paths.specs.Whole.{whole}
+use Rattle.paths.specs.Whole.{Failed, whole}
 use Rattle.mesh.specs.Kinds.{Kind}
 use Rattle.judge.specs.Says.{judgeAgainst, judgeTold}
 use Rattle.survivors.specs.Tally.{Tallied, tallied, tallyTold}
@@ -24,8 +24,8 @@ abbrev pub entryOf : (target hops : ℕ) (whole : Bool) → Entry
 entryOf t h w = record { target = t; hops = h; whole = w }
 
 -- the entry of path i, of w places: its target, its hops, and whether it is whole
-abbrev pub pathEntry : (w : ℕ) (targets places counts stopped : List ℕ) (i : ℕ) → Entry
-pathEntry w targets places counts stopped i = entryOf (getD targets i 0) (hops counts i) (whole w places counts stopped i)
+abbrev pub pathEntry : (w : ℕ) (targets places counts : List ℕ) (fails : Failed) (i : ℕ) → Entry
+pathEntry w targets places counts fails i = entryOf (getD targets i 0) (hops counts i) (whole w places counts fails i)
 
 -- the entries f 0 to f (k - 1)
 unfoldable pub entries : (ℕ → Entry) → ℕ → List Entry
@@ -34,7 +34,7 @@ entries f (suc k) = entries f k ++ (f k ∷ [])
 
 -- ---- what comes back
 
-module _ (K : Kind) (n s : ℕ) (targets places counts stopped : List ℕ) (room : ℕ) where
+module _ (K : Kind) (n s : ℕ) (targets places counts : List ℕ) (fails : Failed) (room : ℕ) where
   -- the one where nothing stands against a list of so many entries and nothing is found, else the other
   abbrev pub settle : {A : Type 0} → A → A → A
   settle a b = settled (judgeAgainst K n s targets places counts (ltb room (length targets))) (finding (K .mesh n) s targets places counts) a b
@@ -43,12 +43,12 @@ module _ (K : Kind) (n s : ℕ) (targets places counts stopped : List ℕ) (room
   abbrev pub listedTold : Tallied
   listedTold =
       tallied (judgeTold K n s targets places counts (ltb room (length targets)))
-      (settle (count (whole (width (K .mesh n)) places counts stopped) (length targets)) 0)
+      (settle (count (whole (width (K .mesh n)) places counts fails) (length targets)) 0)
 
-module _ (K : Kind) (n s : ℕ) (targets places counts stopped : List ℕ) (out : List Entry) where
+module _ (K : Kind) (n s : ℕ) (targets places counts : List ℕ) (fails : Failed) (out : List Entry) where
   pub record Listed (r : Tally) (out₁ : List Entry) : Type 0 where
-    pub told : tallyTold r ≡ listedTold K n s targets places counts stopped (length out)
+    pub told : tallyTold r ≡ listedTold K n s targets places counts fails (length out)
     pub listed : out₁
-        ≡ settle K n s targets places counts stopped (length out)
-        (entries (pathEntry (width (K .mesh n)) targets places counts stopped) (length targets) ++ drop (length targets) out)
+        ≡ settle K n s targets places counts fails (length out)
+        (entries (pathEntry (width (K .mesh n)) targets places counts fails) (length targets) ++ drop (length targets) out)
         out

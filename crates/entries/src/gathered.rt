@@ -1,6 +1,7 @@
 // The three columns of the plain function, gathered for as many entries as there is room for.
 ghost use mathlib.Core.Path.{_≡_};
 ghost use Prim.Native.Nat.{_<_};
+ghost use Rattle.paths.specs.Whole.{failed};
 ghost use Rattle.mesh.specs.Kinds.{kindOf};
 ghost use Rattle.entries.specs.Gathered.{capped, takenOf, entryAt, Gathers};
 use crate::Entry;
@@ -75,7 +76,7 @@ pub fn gather<'b>(
     stopped: &'b [u64],
     room: usize,
 ) -> Gathered
-    ensures { λ r. ⌜ Gathers (kindOf (mesh .kind)) (mesh .size) source (now (targets .entry)) (now (places .entry)) (now (counts .entry)) (now (stopped .entry)) room r ⌝ }
+    ensures { λ r. ⌜ Gathers (kindOf (mesh .kind)) (mesh .size) source (now (targets .entry)) (now (places .entry)) (now (counts .entry)) (failed (now (stopped .entry))) room r ⌝ }
 {
     let n = most(room);
     let mut ends = [0u64; 32];

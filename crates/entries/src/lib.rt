@@ -1,6 +1,7 @@
 // Survivors over one lent list of entries: a thin function over the plain one, which fills three columns of numbers.
 mod gathered;
 
+ghost use Rattle.paths.specs.Whole.{failed};
 ghost use Rattle.mesh.specs.Kinds.{kindOf};
 ghost use Rattle.entries.specs.Says.{Listed};
 use mesh::Mesh;
@@ -27,7 +28,7 @@ pub fn survivors<'a, 'b>(
     stopped: &'b [u64],
     out: &'a mut [Entry],
 ) -> Tally
-    ensures { λ r. ⌜ Listed (kindOf (mesh .kind)) (mesh .size) source (now (targets .entry)) (now (places .entry)) (now (counts .entry)) (now (stopped .entry)) (now (out .entry)) r (now (out .exit)) ⌝ }
+    ensures { λ r. ⌜ Listed (kindOf (mesh .kind)) (mesh .size) source (now (targets .entry)) (now (places .entry)) (now (counts .entry)) (failed (now (stopped .entry))) (now (out .entry)) r (now (out .exit)) ⌝ }
 {
     let g = gathered::gather(mesh, source, targets, places, counts, stopped, out.len());
     let k = g.count();

@@ -9,6 +9,7 @@ use Rattle.scan.specs.Scan.{pick}
 use Rattle.answers.specs.Told as told
 use Rattle.answers.specs.Told.{Told}
 use Rattle.paths.specs.Mesh.{width}
+use Rattle.paths.specs.Whole.{Failed}
 use Rattle.mesh.specs.Kinds.{Kind}
 use Rattle.mesh.specs.Says.{factTold}
 use Rattle.judge.specs.Says.{Ruling, numberOf, pathOf, placeOf}
@@ -67,10 +68,10 @@ readingIn t = record {
 
 -- ---- the calls that fill slices: what is told, and the slices as the library's routine leaves them
 
-pub record SurvivedIn (K : Kind) (n s : ℕ) (targets places counts stopped ends hops wholes : List ℕ) (r : GustAnswer) (ends₁ hops₁ wholes₁ : List ℕ) : Type 0 where
-  pub told : r ≡ tallyIn (survivorsTold K n s targets places counts stopped ends hops wholes)
+pub record SurvivedIn (K : Kind) (n s : ℕ) (targets places counts : List ℕ) (fails : Failed) (ends hops wholes : List ℕ) (r : GustAnswer) (ends₁ hops₁ wholes₁ : List ℕ) : Type 0 where
+  pub told : r ≡ tallyIn (survivorsTold K n s targets places counts fails ends hops wholes)
   pub tally : Tally
-  pub left : Survived K n s targets places counts stopped ends hops wholes tally ends₁ hops₁ wholes₁
+  pub left : Survived K n s targets places counts fails ends hops wholes tally ends₁ hops₁ wholes₁
 
 pub record WroteIn (kind size s : ℕ) (targets places counts out : List ℕ) (r : GustAnswer) (out₁ : List ℕ) : Type 0 where
   pub told : r ≡ writtenIn (tellWritten (writeAgainst kind size s targets places counts out) (length (sheet kind size s targets places counts out)))

@@ -3,6 +3,7 @@ ghost use mathlib.Core.Path.{_≡_};
 ghost use mathlib.Core.Bool.{false};
 ghost use Rattle.mesh.specs.Kinds.{kindOf};
 ghost use Rattle.mesh.specs.Says.{linkedTold, distanceTold, routeTold, routeLeaves};
+ghost use Rattle.paths.specs.Whole.{failed};
 ghost use Rattle.judge.specs.Says.{judgeTold};
 ghost use Rattle.host.specs.Shapes as specs;
 use crate::shapes;
@@ -124,7 +125,7 @@ pub extern "C" fn gust_survivors(
     hops: &mut [u64],
     wholes: &mut [u64],
 ) -> GustAnswer
-    ensures { λ r. ⌜ specs.SurvivedIn (kindOf kind) size source (now (targets .entry)) (now (places .entry)) (now (counts .entry)) (now (stopped .entry)) (now (ends .entry)) (now (hops .entry)) (now (wholes .entry)) r (now (ends .exit)) (now (hops .exit)) (now (wholes .exit)) ⌝ }
+    ensures { λ r. ⌜ specs.SurvivedIn (kindOf kind) size source (now (targets .entry)) (now (places .entry)) (now (counts .entry)) (failed (now (stopped .entry))) (now (ends .entry)) (now (hops .entry)) (now (wholes .entry)) r (now (ends .exit)) (now (hops .exit)) (now (wholes .exit)) ⌝ }
 {
     shapes::of_tally(survivors::survivors(
         Mesh {

@@ -24,7 +24,7 @@ use Rattle.cube.specs.Cube as cube
 use Rattle.cube.specs.Sizes.{known-most}
 use Rattle.two.specs.Two as two
 use Rattle.two.specs.Parts.{known-bounds, longest-few, relays-few}
-use Rattle.two_distance.specs.Ways.{distance}
+use Rattle.paths.specs.Ways.{distance}
 use Rattle.mesh.specs.Kinds.{Kind, cubes, twos, others, CUBE, TWO, kindOf, known}
 use Rattle.mesh.specs.Says.{requestAgainst, distanceTold}
 

@@ -10,7 +10,7 @@ use Rattle.answers.specs.Order.{Fault, first, sizeFaults, distanceFaults, pairF
 use Rattle.answers.specs.Told.{Told, tell, leaves}
 use Rattle.answers.specs.declared.Refusal.{Refusal}
 use Rattle.paths.specs.Mesh.{Mesh, width}
-use Rattle.two_distance.specs.Ways.{distance}
+use Rattle.paths.specs.Ways.{distance}
 use Rattle.mesh.specs.Kinds.{Kind}
 use Rattle.mesh.specs.declared.Fact.{Fact}
 use Rattle.mesh.specs.declared.Fact.the-variants.{Relays, Links, Longest, Places}

@@ -20,7 +20,7 @@ use Rattle.mesh.specs.Says.{requestAgainst, short}
 use Rattle.mesh.specs.Requests.{Fine, request-fine, request-passed, room-enough}
 use Rattle.judge.specs.Says.{numberOf, rule, judgeAgainst, judgeTold}
 use Rattle.judge.specs.Numbers.{finding-numbered, rule-zero}
-use Rattle.judge.specs.Rows.{row-below}
+use Rattle.paths.specs.Places.{row-below}
 use Rattle.sheet.specs.Lent.{path-at}
 
 -- the first n numbers are the same

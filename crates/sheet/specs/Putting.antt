@@ -20,7 +20,7 @@ use Rattle.paths.specs.Fan.{hops}
 use Rattle.paths.specs.Lists.{ahead, ahead-length}
 use Rattle.paths.specs.Read.{read}
 use Rattle.mesh.specs.Kinds.{meshOf, known}
-use Rattle.judge.specs.Rows.{row-below}
+use Rattle.paths.specs.Places.{row-below}
 use Rattle.sheet.specs.Format.{VERSION, fields, relaysBytes, pathBytes, pathsBytes, bodyOf, sheetOf, pathsFrom, pathsOf}
 use Rattle.sheet.specs.Total.{total, headBytes, Headed, Paths, Sheeted, Put}
 

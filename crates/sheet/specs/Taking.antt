@@ -14,7 +14,7 @@ use Rattle.octets.specs.Big.{number}
 use Rattle.scan.specs.Runs.{sets-append}
 use Rattle.paths.specs.Fan.{filler}
 use Rattle.mesh.specs.Kinds.{kindOf}
-use Rattle.judge.specs.Rows.{row-below}
+use Rattle.paths.specs.Places.{row-below}
 use Rattle.judge.specs.Says.{numberOf, judgeTold}
 use Rattle.sheet.specs.Format.{HEAD, hopsAt, after, relaysAt, pathsAt, row, placesOf, countsOf, lastOf, targetsOf}
 use Rattle.sheet.specs.Says.{before, looked}

@@ -1,41 +1,22 @@
 -- What survivors promises: what comes back, and what the three columns hold afterwards. Where something stands against the request or is found, no
 -- path is counted and the columns stay as they were.
-use Prim.Native.Nat.{ℕ, zero, suc}
+use Prim.Native.Nat.{ℕ}
 use mathlib.Core.Path.{_≡_}
 use mathlib.Core.Bool.{Bool, true}
-use mathlib.Core.List.{List, [], _∷_, _++_}
+use mathlib.Core.List.{List}
 use mathlib.Core.Option.{Option, none, some}
 use lib.Dec.{ltb}
-use lib.ListN.{length, take, drop}
+use lib.ListN.{length, take}
 use Rattle.scan.specs.Scan.{pick, count}
 use Rattle.answers.specs.declared.Refusal.{Refusal}
 use Rattle.paths.specs.Mesh.{width}
 use Rattle.paths.specs.Finding.{Finding, clean, found, finding}
-use Rattle.paths.specs.Whole.{whole}
+use Rattle.paths.specs.Whole.{Failed, whole}
 use Rattle.mesh.specs.Kinds.{Kind}
 use Rattle.judge.specs.Says.{judgeAgainst, judgeTold}
+use Rattle.columns.specs.Says.{ahead, marks}
 use Rattle.survivors.specs.Tally.{Tallied, tallied, tallyTold}
 use Rattle.survivors.specs.declared.Tally.{Tally}
-
--- ---- the columns
-
--- a column of k entries at the front of what was there
-abbrev pub ahead : (k : ℕ) (column was : List ℕ) → List ℕ
-ahead k column was = column ++ drop k was
-
--- 1 for each number below n at which the test holds, and 0 for each other
-unfoldable pub marks : (ℕ → Bool) → ℕ → List ℕ
-marks test zero = []
-marks test (suc n) = marks test n ++ (pick (test n) 1 0 ∷ [])
-
--- the count and the columns of the paths to the targets, of w places each: the targets, the hops, and which paths are whole
-pub record Columns (w : ℕ) (targets places counts stopped ends hops wholes : List ℕ) (r : ℕ) (ends₁ hops₁ wholes₁ : List ℕ) : Type 0 where
-  pub counted : r ≡ count (whole w places counts stopped) (length targets)
-  pub ended : ends₁ ≡ ahead (length targets) targets ends
-  pub hopped : hops₁ ≡ ahead (length targets) (take (length targets) counts) hops
-  pub marked : wholes₁ ≡ ahead (length targets) (marks (whole w places counts stopped) (length targets)) wholes
-
--- ---- what comes back
 
 -- fewer than k of one of three
 abbrev pub few : (k a b c : ℕ) → Bool
@@ -51,7 +32,7 @@ settled (some why) f a b = b
 abbrev pub lacking : (targets ends hops wholes : List ℕ) → Bool
 lacking targets ends hops wholes = few (length targets) (length ends) (length hops) (length wholes)
 
-module _ (K : Kind) (n s : ℕ) (targets places counts stopped ends hops wholes : List ℕ) where
+module _ (K : Kind) (n s : ℕ) (targets places counts : List ℕ) (fails : Failed) (ends hops wholes : List ℕ) where
   abbrev settle : {A : Type 0} → A → A → A
   settle a b = settled (judgeAgainst K n s targets places counts (lacking targets ends hops wholes)) (finding (K .mesh n) s targets places counts) a b
 
@@ -59,10 +40,10 @@ module _ (K : Kind) (n s : ℕ) (targets places counts stopped ends hops wholes 
   abbrev pub survivorsTold : Tallied
   survivorsTold =
       tallied (judgeTold K n s targets places counts (lacking targets ends hops wholes))
-      (settle (count (whole (width (K .mesh n)) places counts stopped) (length targets)) 0)
+      (settle (count (whole (width (K .mesh n)) places counts fails) (length targets)) 0)
 
   pub record Survived (r : Tally) (ends₁ hops₁ wholes₁ : List ℕ) : Type 0 where
     pub told : tallyTold r ≡ survivorsTold
     pub ended : ends₁ ≡ settle (ahead (length targets) targets ends) ends
     pub hopped : hops₁ ≡ settle (ahead (length targets) (take (length targets) counts) hops) hops
-    pub marked : wholes₁ ≡ settle (ahead (length targets) (marks (whole (width (K .mesh n)) places counts stopped) (length targets)) wholes) wholes
+    pub marked : wholes₁ ≡ settle (ahead (length targets) (marks (whole (width (K .mesh n)) places counts fails) (length targets)) wholes) wholes

@@ -5,10 +5,8 @@ pub mod Seen
 pub mod Digits
 pub mod Parts
 pub mod Links
-pub mod Counts
 pub mod Near
 pub mod Moves
-pub mod Ends
 pub mod Steps
 pub mod Says
 pub mod Needs

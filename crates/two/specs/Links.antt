@@ -13,16 +13,12 @@ use lib.Pow.{pow-pos}
 use borrow.Author.Tests.{eqb-true, eq-eqb, ne-eqb}
 use Rattle.bits.specs.Bit.{flip}
 use Rattle.bits.specs.Laws.{flip-lt, ones-one, ones-pow}
-use Rattle.scan.specs.Laws.{true-false}
+use Rattle.scan.specs.Laws.{both-true}
 use Rattle.two.specs.Two.{slots, blocks, blockOf, slotOf, relay, joined, linked}
 use Rattle.two.specs.Digits.{xor-flip, flip-is-xor}
 use Rattle.two.specs.Parts.{block-relay, slot-relay, slot-below}
 
 -- ---- truth
-
-pub both-true : (a b : Bool) → (a && b) ≡ true → (a ≡ true) × (b ≡ true)
-both-true true b e = (refl, e)
-both-true false b e = absurd (true-false e refl)
 
 pub either-true : (a b : Bool) → (a || b) ≡ true → (a ≡ true) ⊎ (b ≡ true)
 either-true true b e = inl refl

@@ -12,10 +12,10 @@ use borrow.Author.Tests.{lt-ltb, le-ltb}
 use Rattle.bits.specs.Bit.{bit, flip}
 use Rattle.bits.specs.Laws.{bit-lt, flip-same, flip-other, flip-lt, lt-or-le}
 use Rattle.scan.specs.Scan.{pick, count}
+use Rattle.scan.specs.Counts.{count-places}
 use Rattle.two.specs.Two.{relays, blockOf, slotOf, relay, linked}
 use Rattle.two.specs.Parts.{block-relay, slot-relay, relay-parts, relay-below, block-below, slot-below}
 use Rattle.two.specs.Links.{Link, linked-link, link-linked}
-use Rattle.two.specs.Counts.{count-values}
 
 -- the relay at the other end of link i of u: bit i of the slot changed, or for i = m the block's bit of the slot
 unfoldable pub near : (m u i : ℕ) → ℕ
@@ -92,4 +92,9 @@ module _ (m u : ℕ) where
   -- each relay has exactly m + 1 links
   pub links-count : u < relays m → count (linked m u) (relays m) ≡ m + 1
   links-count h =
-      count-values (linked m u) (near m u) (relays m) (m + 1) (λ i l. near-below h i) near-differ (λ i l. near-linked i) (λ v l e. linked-near v e)
+      count-places (linked m u) (relays m) (m + 1) (near m u) (record {
+        within = λ i l. near-below h i;
+        apart = λ i j l g e. let same : i ≡ j = near-differ i j (omega arith) g e in omega arith;
+        holds = λ i l. near-linked i;
+        only = λ v l e. let (i, g, z) = linked-near v e in (i, g, sym z);
+      })

@@ -24,7 +24,7 @@ use Rattle.two.specs.Next as def
 use Rattle.two.specs.Digits.{lowest-alike}
 use Rattle.two.specs.Parts.{block-relay, slot-relay, relay-parts, relay-below, block-below, slot-below, same-parts}
 use Rattle.two.specs.Links.{Link, link-linked, link-within}
-use Rattle.two.specs.Ends.{walk-ends, node-keeps}
+use Rattle.paths.specs.Ends.{walk-ends, node-keeps}
 
 -- ---- what is used of the choice of the block bit
 

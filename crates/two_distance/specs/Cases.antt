@@ -5,7 +5,7 @@ use mathlib.Core.List.{List, [], _∷_}
 use lib.Count.{ones, onesIn}
 use Rattle.scan.specs.Scan.{seek, any}
 use Rattle.two.specs.Two.{joined, linked, two}
-use Rattle.two_distance.specs.Ways.{reaches, distance}
+use Rattle.paths.specs.Ways.{reaches, distance}
 
 -- the distances of the n relays from i on
 unfoldable pub distances : (m i n : ℕ) → List ℕ

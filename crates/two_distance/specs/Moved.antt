@@ -17,7 +17,7 @@ use Rattle.two.specs.Seen.{seen}
 use Rattle.two.specs.Moves.{unseen, seen-below, seen-home, seen-linked, unseen-below, unseen-seen, unseen-linked}
 use Rattle.two.specs.Parts.{bounds-known, high-unknown}
 use Rattle.two.specs.Says.{pairAgainst}
-use Rattle.two_distance.specs.Ways.{Way, Shortest, distance, shortest-distance, way-map}
+use Rattle.paths.specs.Ways.{Way, Shortest, distance, shortest-distance, way-map}
 use Rattle.two_distance.specs.Tables.{entry}
 use Rattle.two_distance.specs.Tested.{top, entry-shortest, entry-top}
 use Rattle.two_distance.specs.Says.{distanceAgainst}

@@ -8,7 +8,7 @@ use mathlib.Core.Logic.{_≢_}
 use native.Mathlib.Omega.{arith}
 use native.Mathlib.Decide.{ℕ-discrete}
 use Rattle.paths.specs.Mesh.{Mesh}
-use Rattle.two_distance.specs.Ways.{Way, Shortest, way-more}
+use Rattle.paths.specs.Ways.{Way, Shortest, way-more}
 
 pub record Rule (mesh : Mesh) (entry : ℕ → ℕ) : Type 0 where
   pub start : entry 0 ≡ 0

@@ -48,6 +48,7 @@ use denote.Triple.Walked.{says, Stays, stay-none, stay-slice, stay-none-slice, w
 use denote.Exit.{yes}
 use Rattle.mesh.specs.declared.Mesh.{Mesh}
 use Rattle.mesh.specs.Kinds.{kindOf}
+use Rattle.paths.specs.Whole.{failed}
 use Rattle.survivors.specs.declared.Tally.{Tally}
 use Rattle.entries.specs.declared.Entry.{Entry}
 use Rattle.entries.specs.declared.gathered.Gathered.{Gathered}
@@ -154,7 +155,7 @@ module _ {M : Type 1} (𝓤 : URA M) (H : Heap 𝓤) (A : Atoms 𝓤) (mem : Mem
   ToldC = tripleOf 𝓤 H A told.signature (told.spec 𝓤 H A mem run)
 
   abbrev Gathered-by : Asked → Gathered → Type 0
-  Gathered-by a = Gathers (kindOf (a .0 .kind)) (a .0 .size) (a .1 .0) (now (a .1 .1 .0)) (now (a .1 .1 .1 .0)) (now (a .1 .1 .1 .1 .0)) (now (a .1 .1 .1 .1 .1 .0)) (a .1 .1 .1 .1 .1 .1 .0)
+  Gathered-by a = Gathers (kindOf (a .0 .kind)) (a .0 .size) (a .1 .0) (now (a .1 .1 .0)) (now (a .1 .1 .1 .0)) (now (a .1 .1 .1 .1 .0)) (failed (now (a .1 .1 .1 .1 .1 .0))) (a .1 .1 .1 .1 .1 .1 .0)
 
   gather-said : (κ′ : Lft) (a : Asked) (r : Gathered) → ent 𝓤 (ensured 𝓤 H A gather.ended (gather.clauses 𝓤 H A mem run) (κ′, tt) a tt r) (fact 𝓤 (Gathered-by a r))
   gather-said κ′ a r = exE 𝓤 _ (λ ls. snd∗ 𝓤 (sem 𝓤 H A (lasts gather.ended (κ′, tt) a ls)) (fact 𝓤 (Gathered-by a r)))
@@ -283,7 +284,7 @@ module _ {M : Type 1} (𝓤 : URA M) (H : Heap 𝓤) (A : Atoms 𝓤) (W : Given
     exits s l r v e =
         qed W (‵ (fobs γ (codedHoleys T.the-row .code (heres T.the-row (s .out)))) ∷ ‵ (fbor κ (Held T.the-row (length (s .out)) b o γ)) ∷ ‵ (flft κ q) ∷ ‵ (Y.the-row .own r (v ∷ [])) ∷ (‵ (flft κ′ q′) ⊛ ‵ ftrue) ∷ ‵ Kept ∷ []) ∵
         suffices ! _ (ends-at 𝓤 H A f.ended stayed (f.clauses 𝓤 H A mem run) W ((κs, (q′, (q, tt)), tt, x, at), tt) v r (tt, (tt, (tt, (tt, (tt, (tt, (s .out, tt))))))) (tt, (tt, (tt, (tt, (tt, (tt, (s .long, tt)))))))) $
-        says ! (listed (kindOf (mesh .kind)) (mesh .size) source (tx .now) (px .now) (cx .now) (sx .now) xs p e (filled (entryAt gd) (gd .k) xs s l)) $
+        says ! (listed (kindOf (mesh .kind)) (mesh .size) source (tx .now) (px .now) (cx .now) (failed (sx .now)) xs p e (filled (entryAt gd) (gd .k) xs s l)) $
         move ! (4 ∷ []) $ split ! $ move ! (4 ∷ 1 ∷ []) $ join ! $ move ! (1 ∷ 0 ∷ []) $ join ! $ frame ! $
         -- [obs; the borrow; the result; Kept]
         fjoin ! $ pureI ! (at-slice T.the-row (record { ptr = (b, o); name = γ; now = s .out }) (at .1 .1 .1 .1 .1 .1 .0)) (tt, (tt, tt)) (ap (λ (j : ℕ). sliceVal (b, o) j ∷ []) (sym (s .long)), subst (Room T.the-row) (sym (s .long)) g) $ fjoin ! $

@@ -10,7 +10,7 @@ use Rattle.two.specs.Two.{relays, two}
 use Rattle.two.specs.Moves.{seen-below}
 use Rattle.two.specs.Parts.{known-bounds}
 use Rattle.two.specs.Needs.{Fine, fine}
-use Rattle.two_distance.specs.Ways as ways
+use Rattle.paths.specs.Ways as ways
 use Rattle.two_distance.specs.Tables.{entry}
 use Rattle.two_distance.specs.Moved.{distance-entry, distance-near, distance-far, distance-unknown}
 use Rattle.two_distance.proofs.distance.Statement.{statement}

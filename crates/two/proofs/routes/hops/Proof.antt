@@ -9,7 +9,7 @@ use Rattle.two.specs.Two.{relays}
 use Rattle.two.specs.Next.{next, hops}
 use Rattle.two.specs.Parts.{known-bounds, longest-few}
 use Rattle.two.specs.Needs.{Fine}
-use Rattle.two.specs.Ends.{not-yet, now-there}
+use Rattle.paths.specs.Ends.{not-yet, now-there}
 use Rattle.two.specs.Steps.{node-below, hops-arrive, hops-bound}
 use Rattle.two.proofs.routes.hops.Statement.{statement}
 use Rattle.two.proofs.routes.hops.Tie as tie
