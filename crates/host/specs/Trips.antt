@@ -15,9 +15,9 @@ use Rattle.requests.specs.Planned.{not-both}
 use Rattle.mesh.specs.Kinds.{kindOf, meshOf}
 use Rattle.mesh.specs.Says.{requestAgainst}
 use Rattle.mesh.specs.Requests.{request-passed}
-use Rattle.sheet.specs.Total.{bytes}
 use Rattle.sheet.specs.Judging.{judged-told}
-use Rattle.sheet.specs.TripsRead.{ReadsBack, write-read}
+use Rattle.sheet_write.specs.Says.{bytes}
+use Rattle.sheet_trips.specs.TripsRead.{ReadsBack, write-read}
 use Rattle.host.specs.Says.{most, targetsIn, listAgainst, planAgainst, Answered, Planned}
 
 not-refused : (b : Bool) (why : Refusal) (rest : Option Refusal) → refuse b why rest ≡ none → rest ≡ none

@@ -142,7 +142,7 @@ pub extern "C" fn gust_survivors(
     ))
 }
 
-// `sheet::write`: the value is how many bytes the sheet takes.
+// `sheet_write::write`: the value is how many bytes the sheet takes.
 #[no_mangle]
 pub extern "C" fn gust_write_sheet(
     kind: u64,
@@ -155,7 +155,7 @@ pub extern "C" fn gust_write_sheet(
 ) -> GustAnswer
     ensures { λ r. ⌜ specs.WroteIn kind size source (now (targets .entry)) (now (places .entry)) (now (counts .entry)) (now (out .entry)) r (now (out .exit)) ⌝ }
 {
-    shapes::of_written(sheet::write(
+    shapes::of_written(sheet_write::write(
         Mesh {
             kind: kind,
             size: size,
@@ -168,7 +168,7 @@ pub extern "C" fn gust_write_sheet(
     ))
 }
 
-// `sheet::read`.
+// `sheet_read::read`.
 #[no_mangle]
 pub extern "C" fn gust_read_sheet(
     bytes: &[u8],
@@ -178,5 +178,5 @@ pub extern "C" fn gust_read_sheet(
 ) -> GustReading
     ensures { λ r. ⌜ specs.ReadIn (now (bytes .entry)) (now (places .entry)) (now (counts .entry)) (now (targets .entry)) r (now (places .exit)) (now (counts .exit)) (now (targets .exit)) ⌝ }
 {
-    shapes::of_reading(sheet::read(bytes, places, counts, targets))
+    shapes::of_reading(sheet_read::read(bytes, places, counts, targets))
 }
