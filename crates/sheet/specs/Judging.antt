@@ -9,17 +9,17 @@ use native.Mathlib.Omega.{arith}
 use lib.ListN.{length, getD}
 use borrow.Author.Tests.{le-ltb}
 use Rattle.answers.specs.declared.Refusal.{Refusal}
-use Rattle.paths.specs.Mesh.{Mesh, width}
 use Rattle.paths.specs.Fan.{relay, hops, Fan}
 use Rattle.paths.specs.Finding.{Finding, finding}
 use Rattle.paths.specs.Judged.{clean-fan, fan-clean}
 use Rattle.paths.specs.Lists.{laid-fan, ahead-length}
+use Rattle.paths.specs.Mesh.{Mesh, width}
 use Rattle.paths.specs.Read.{read, fan-lists}
 use Rattle.mesh.specs.Kinds.{Kind}
-use Rattle.mesh.specs.Says.{requestAgainst, short}
 use Rattle.mesh.specs.Requests.{Fine, request-fine, request-passed, room-enough}
-use Rattle.judge.specs.Says.{numberOf, rule, judgeAgainst, judgeTold}
+use Rattle.mesh.specs.Says.{requestAgainst, short}
 use Rattle.judge.specs.Numbers.{finding-numbered, rule-zero}
+use Rattle.judge.specs.Says.{numberOf, rule, judgeAgainst, judgeTold}
 use Rattle.paths.specs.Places.{row-below}
 use Rattle.sheet.specs.Lent.{path-at}
 
