@@ -15,12 +15,12 @@ use Rattle.paths.specs.Mesh.{width}
 use Rattle.mesh.specs.Kinds.{kindOf, known}
 use Rattle.mesh.specs.Says.{short}
 use Rattle.mesh.specs.Requests.{neither-wanting, room-enough}
+use Rattle.judge.specs.Alike.{enough}
 use Rattle.judge.specs.Says.{numberOf, judgeTold}
 use Rattle.sheet.specs.Format.{VERSION, HEAD, lengthAt, versionAt, kindAt, sizeAt, countAt, sourceAt}
 use Rattle.sheet.specs.Says.{flawed, before, cut, badCount, looked, meshAt, sheetTargets, sheetPlaces, sheetCounts, headAgainst, unjudged, lacking, readAgainst}
 use Rattle.sheet.specs.Looking.{flawed-none}
 use Rattle.sheet.specs.Taking.{before-none}
-use Rattle.sheet.specs.Judging.{enough}
 use Rattle.sheet.specs.declared.Flaw.{Flaw}
 use Rattle.sheet.specs.declared.Flaw.the-variants as flaw
 
