@@ -34,7 +34,8 @@ use Rattle.sheet.specs.Says.{settled, flawed}
 use Rattle.sheet.specs.Pieces.{at-front}
 use Rattle.sheet.specs.Lengths.{relays-count}
 use Rattle.sheet.specs.Most.{fan-sheet-most, known-room}
-use Rattle.sheet.specs.Judging.{Judged, enough}
+use Rattle.judge.specs.Alike.{enough}
+use Rattle.sheet.specs.Judging.{Judged}
 use Rattle.sheet.specs.declared.Flaw.{Flaw}
 use Rattle.sheet.specs.declared.Flaw.the-variants as flaw
 use Rattle.sheet_write.specs.Says.{bytes}

@@ -14,10 +14,10 @@ use Rattle.paths.specs.Mesh.{width}
 use Rattle.mesh.specs.Kinds.{kindOf, known}
 use Rattle.mesh.specs.Requests.{neither-wanting, room-enough}
 use Rattle.mesh.specs.Says.{short}
+use Rattle.judge.specs.Alike.{enough}
 use Rattle.judge.specs.Says.{numberOf, judgeTold}
 use Rattle.sheet.specs.Flaws.{flawed-none, before-none, no-flaw, none-flawed, none-before}
 use Rattle.sheet.specs.Format.{VERSION, HEAD, lengthAt, versionAt, kindAt, sizeAt, countAt, sourceAt}
-use Rattle.sheet.specs.Judging.{enough}
 use Rattle.sheet.specs.Says.{flawed}
 use Rattle.sheet.specs.declared.Flaw.{Flaw}
 use Rattle.sheet.specs.declared.Flaw.the-variants as flaw
