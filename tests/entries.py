@@ -15,7 +15,6 @@ import tempfile
 from judge_model import WORD, asked, cases, fan, survivors
 
 ROOT = os.path.dirname(os.path.dirname(os.path.abspath(__file__)))
-DEPENDS = ("bits", "scan", "answers", "requests", "paths", "cube", "two", "hops", "mesh", "judge", "survivors", "entries", "script")
 PROGRAM = """
 // A case at a time: kind, size and source; targets, places, counts and stopped relays, each with its length before it; how many entries are lent.
 // A line has what is told, the count, and the entries, all (9, 9, 1) before, as they are afterwards.
@@ -92,16 +91,28 @@ def answered(*case):
     return "".join(f" {x}" for x in [*told, count, *sum(entries, [])])
 
 
+def reached(*names):
+    """The crates of crates.txt that the named ones reach, these among them, and their lines."""
+    with open(os.path.join(ROOT, "crates.txt"), encoding="utf-8") as listed_crates:
+        lines = {x.split(":")[0]: x for x in listed_crates if ":" in x and not x.startswith("#")}
+    found, left = {}, list(names)
+    while left:
+        name = left.pop()
+        if name in lines and name not in found:
+            found[name] = lines[name]
+            left += lines[name].split(":")[1].split()
+    return found
+
+
 def prepare(copy):
     """A copy of the repository as far as the crate entries reaches, with the program."""
-    for name in DEPENDS:
+    crates = reached("entries", "script")
+    for name in crates:
         shutil.copytree(os.path.join(ROOT, "crates", name), os.path.join(copy, "crates", name))
     shutil.copytree(os.path.join(ROOT, "target/rlib"), os.path.join(copy, "target/rlib"))
     shutil.copytree(os.path.join(ROOT, "target/stamp"), os.path.join(copy, "target/stamp"))
-    with open(os.path.join(ROOT, "crates.txt"), encoding="utf-8") as all_crates:
-        lines = [x for x in all_crates if x.split(":")[0] in DEPENDS]
     with open(os.path.join(copy, "crates.txt"), "w", encoding="utf-8") as some:
-        some.writelines(lines + ["entries_cases: mesh survivors entries script io libc\n"])
+        some.writelines([*crates.values(), "entries_cases: mesh survivors entries script io libc\n"])
     os.makedirs(os.path.join(copy, "crates/entries_cases/src"))
     with open(os.path.join(copy, "crates/entries_cases/src/main.rt"), "w", encoding="utf-8") as source:
         source.write(PROGRAM)

@@ -35,7 +35,8 @@ use Rattle.sheet.specs.Total.{Sheeted, bytes}
 use Rattle.sheet.specs.Total as total
 use Rattle.sheet.specs.Lengths.{fan-sheet-most}
 use Rattle.sheet.specs.Bodied.{known-room, at-front}
-use Rattle.sheet.specs.Judging.{Judged, enough}
+use Rattle.sheet.specs.Judging.{Judged}
+use Rattle.judge.specs.Alike.{enough}
 use Rattle.sheet.specs.Running.{relays-count}
 use Rattle.sheet.specs.Writing.{judged-sheeted}
 use Rattle.sheet.specs.declared.Flaw.{Flaw}
