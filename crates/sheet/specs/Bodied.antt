@@ -6,19 +6,16 @@ use mathlib.Core.Bool.{Bool, true, false, not}
 use mathlib.Core.Logic.{_≢_}
 use mathlib.Core.List.{List, _++_}
 use mathlib.Core.Option.{Option, none, some}
-use native.Mathlib.Nat.{mul-le-mul, mul-le-mul-right, zero-add, le-trans}
+use native.Mathlib.Nat.{mul-le-mul-right, zero-add}
 use native.Mathlib.Omega.{arith}
-use native.Mathlib.Decide.{ℕ-discrete}
 use lib.Dec.{eqb, ltb}
 use lib.ListN.{length, drop}
 use lib.Seq.{sets, sets-eq}
 use borrow.Author.Tests.{not-false, ltb-false, eqb-false, lt-ltb, le-ltb, eq-eqb, ne-eqb}
 use Rattle.scan.specs.Scan.{pick}
 use Rattle.paths.specs.Mesh.{Mesh, width}
-use Rattle.cube.specs.Sizes.{known-most}
-use Rattle.two.specs.Parts.{known-bounds}
-use Rattle.mesh.specs.Kinds.{Kind, CUBE, kindOf, meshOf, known}
-use Rattle.mesh.specs.Laws.{as-cube, not-cube, known-cube, known-two, known-small}
+use Rattle.mesh.specs.Kinds.{kindOf, meshOf, known}
+use Rattle.mesh.specs.Limits.{known-links, known-width, known-places}
 use Rattle.mesh.specs.Says.{short}
 use Rattle.mesh.specs.Requests.{neither-wanting, room-enough}
 use Rattle.sheet.specs.Format.{VERSION, HEAD, lengthAt, versionAt, kindAt, sizeAt, countAt, sourceAt, pathsAt, placesOf, countsOf, targetsOf}
@@ -108,27 +105,9 @@ module _ {l : List ℕ} {kind size s k : ℕ} (b : Bodied l kind size s k) where
     longest-is = omega (arith, e)
 
     pub body-small : w - 1 ≤ 206
-    body-small = omega (arith, e, known-small kind size body-known .1)
+    body-small = omega (arith, e, known-width kind size body-known)
 
 -- ---- the body
-
--- links times places, of a mesh that there is
-pub known-room : (kind size : ℕ) → known kind size ≡ true → meshOf kind size .links * width (meshOf kind size) ≤ 1242
-known-room kind size h = go (ℕ-discrete kind CUBE)
-  where
-    Room : Kind → Type 0
-    Room K = K .mesh size .links * width (K .mesh size) ≤ 1242
-
-    go : Dec (kind ≡ CUBE) → meshOf kind size .links * width (meshOf kind size) ≤ 1242
-    go (yes e) =
-        let most = known-most size refl (known-cube kind size h e) in
-        let wide : size + 1 + 1 ≤ 34 = omega arith in
-        subst Room (as-cube (λ (K : Kind). K) e) (le-trans (mul-le-mul most wide) (omega arith))
-    go (no ne) =
-        let most = known-bounds size (known-two kind size h ne) .1 in
-        let small : size + 1 ≤ 6 = omega arith in
-        let few : meshOf kind size .links ≤ 6 = subst (λ (K : Kind). K .mesh size .links ≤ 6) (not-cube kind size h (λ (K : Kind). K) ne) small in
-        le-trans (mul-le-mul few (known-small kind size h .1)) (omega arith)
 
 -- numbers at the front of a list
 pub at-front : (a l : List ℕ) → length a ≤ length l → sets l 0 a ≡ a ++ drop (length a) l
@@ -163,16 +142,15 @@ module _ {l : List ℕ} {kind size s k : ℕ} (b : Bodied l kind size s k) (plac
       module _ (h : none ≡ looked longest l HEAD 0 k) where
         pub body-judgeable : Judgeable l kind size longest k 1242 32 32
         body-judgeable =
-            let small = known-small kind size (body-known b) in
             let all = mul-le-mul-right (longest + 1) (body-few b) in
             record {
               wide = e;
               taken = record {
                 sound = sym h;
-                small = omega (arith, e, small .1);
-                room = omega (arith, all, known-room kind size (body-known b), ap (λ (x : ℕ). meshOf kind size .links * (x + 1)) e);
-                counted = omega (arith, body-few b, small .0);
-                aimed = omega (arith, body-few b, small .0);
+                small = omega (arith, e, known-width kind size (body-known b));
+                room = omega (arith, all, known-places kind size (body-known b), ap (λ (x : ℕ). meshOf kind size .links * (x + 1)) e);
+                counted = omega (arith, body-few b, known-links kind size (body-known b));
+                aimed = omega (arith, body-few b, known-links kind size (body-known b));
               };
             }
 
@@ -182,7 +160,7 @@ module _ {l : List ℕ} {kind size s k : ℕ} (b : Bodied l kind size s k) (plac
             let room = room-enough (meshOf kind size) k (length places) (length counts) (r .0) in
             record {
               sound = sym h;
-              small = omega (arith, e, known-small kind size (body-known b) .1);
+              small = omega (arith, e, known-width kind size (body-known b));
               room = omega (arith, room .0, ap (λ (x : ℕ). k * (x + 1)) e);
               counted = room .1;
               aimed = ltb-false (length targets) k (r .1);

@@ -11,7 +11,7 @@ use Rattle.scan.specs.Scan.{seek, any}
 use Rattle.scan.specs.Laws.{not-true, any-true, true-any, first-seek}
 use Rattle.paths.specs.Mesh.{Mesh}
 use Rattle.paths.specs.Walk.{number}
-use Rattle.two.specs.Links.{both-true}
+use Rattle.two_parts.specs.Links.{both-true}
 
 -- a path of n links from u to v: the relays after u are relays of the mesh
 abbrev pub Way : (mesh : Mesh) (n u v : ℕ) → Type 0

@@ -17,7 +17,7 @@ use Rattle.cube_math.specs.Plain.{bit-full, full-below}
 use Rattle.two_write.specs.Row.{hops}
 use Rattle.two_rows.specs.Rows as rows
 use Rattle.two_rows.specs.Rows.{at, Gives}
-use Rattle.two.specs.Two.{two, blockOf, slotOf}
+use Rattle.two_parts.specs.Two.{two, blockOf, slotOf}
 use Rattle.two_math.specs.Sort.{Ask}
 use Rattle.two_math.specs.Numbers.{ask-numbers}
 use Rattle.two_math.specs.Whole.{round-request}
