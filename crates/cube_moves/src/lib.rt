@@ -227,7 +227,7 @@ pub fn divide(free: u64, s: u64, shut: u64, m: u64, w: usize, grid: &mut [u64]) 
     let b = parting(m, w, grid);
     let rest = bits::flip(free, b);
     let f = bits::flip(s, b);
-    let pow = cube_rows::pow(b);
+    let pow = bits::power(b);
     let low = cube_rows::less(shut, pow);
     let far = alike(m, f, pow, w, grid);
     let home = home_of(far, f, free, shut, b, w, grid);

@@ -36,7 +36,7 @@ fn full(n: u32) -> u64
     requires { ⌜ n ≤ 32 ⌝ }
     ensures { λ r. ⌜ r ≡ 2 ^ n - 1 ⌝ }
 {
-    cube_rows::pow(n) - 1
+    bits::power(n) - 1
 }
 
 // ---- the rows begun, and turned into paths as they are lent

@@ -17,7 +17,7 @@ fn request(mesh: Mesh, source: u64, targets: &[u64], out: &mut [u8]) -> Answer
     requires { ⌜ replyRoom ≤ length (now out) ⌝ }
     ensures { λ r. ⌜ Ruling (mesh .kind) (mesh .size) source (now (targets .entry)) (now (out .entry)) r (now (out .exit)) ⌝ }
 {
-    let mut places = [0u64; 1242];
+    let mut places = [0u64; mesh::MOST_PLACES];
     let mut counts = [0u64; 64];
     match planner::plan(mesh, source, targets, &mut places, &mut counts) {
         Checked::Refused(why) => line_write::write_refusal(why, out),

@@ -11,7 +11,7 @@ use lib.ListN.{length}
 use borrow.Author.Tests.{eqb-false, ltb-false, not-false}
 use Rattle.paths.specs.Mesh.{Mesh, width}
 use Rattle.mesh.specs.Kinds.{meshOf, known}
-use Rattle.mesh.specs.Laws.{known-small}
+use Rattle.mesh.specs.Limits.{known-width}
 use Rattle.mesh.specs.Requests.{neither-wanting}
 use Rattle.mesh.specs.declared.Mesh as code
 use Rattle.sheet.specs.Format.{VERSION, HEAD, lengthAt, versionAt, kindAt, sizeAt, countAt, sourceAt}
@@ -72,7 +72,7 @@ module _ {l : List ℕ} {kind size s k : ℕ} (b : Bodied l kind size s k) where
     longest-is = omega (arith, e)
 
     pub body-small : w - 1 ≤ 206
-    body-small = omega (arith, e, known-small kind size body-known .1)
+    body-small = omega (arith, e, known-width kind size body-known)
 
   -- what is told of the paths is told of the sheet
   pub body-checked : (r : Reading) → readingTold r ≡ sheetTold l (pathsAgainst l) → readingTold r ≡ sheetTold l (checkAgainst l)

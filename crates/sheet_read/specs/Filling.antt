@@ -12,7 +12,7 @@ use borrow.Author.Tests.{ltb-false}
 use Rattle.scan.specs.Scan.{pick}
 use Rattle.paths.specs.Mesh.{Mesh}
 use Rattle.mesh.specs.Kinds.{meshOf}
-use Rattle.mesh.specs.Laws.{known-small}
+use Rattle.mesh.specs.Limits.{known-width}
 use Rattle.mesh.specs.Says.{short}
 use Rattle.mesh.specs.Requests.{neither-wanting, room-enough}
 use Rattle.mesh.specs.declared.Mesh as code
@@ -81,7 +81,7 @@ module _ {l : List ℕ} {kind size s k : ℕ} (b : Bodied l kind size s k) (plac
             let room = room-enough (meshAt l) (countAt l) (length places) (length counts) (w .0) in
             record {
               sound = before-none (looked (meshAt l .longest) l HEAD 0 (countAt l)) _ nothing .0;
-              small = omega (arith, ap (λ (x : Mesh). x .longest) (mesh-is b), known-small kind size (body-known b) .1);
+              small = omega (arith, ap (λ (x : Mesh). x .longest) (mesh-is b), known-width kind size (body-known b));
               room = room .0;
               counted = room .1;
               aimed = ltb-false (length targets) (countAt l) (w .1);

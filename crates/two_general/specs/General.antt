@@ -7,7 +7,7 @@ use native.Mathlib.Omega.{arith}
 use lib.ListN.{length, getD}
 use lib.Pow.{pow-mono, pow-pos}
 use Rattle.cube_math.specs.Masks.{at}
-use Rattle.two.specs.Two.{two}
+use Rattle.two_parts.specs.Two.{two}
 use Rattle.two_math.specs.Assemble.{most}
 use Rattle.two_math.specs.Numbers.{block, slot}
 use Rattle.two_write.specs.Rows.{Ready, Drawn}

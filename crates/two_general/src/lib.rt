@@ -17,7 +17,7 @@ ghost use Rattle.two_math.specs.Assemble.{most};
 ghost use Rattle.two_general.specs.Whole.{Painted};
 ghost use Rattle.two_general.specs.Draws.{Draws};
 ghost use Rattle.two_general.specs.General.{General};
-ghost use Rattle.two.specs.Two.{two};
+ghost use Rattle.two_parts.specs.Two.{two};
 ghost use Rattle.two_general.specs.Paths.{Held, Inner, Put, Pathed, Writes};
 use two_choose::Choice;
 use two_takeover::Taken;
@@ -351,7 +351,7 @@ fn dimensions(n: u32) -> u64
     requires { ⌜ n < 64 ⌝ }
     ensures { λ r. ⌜ r ≡ 2 ^ n - 1 ⌝ }
 {
-    cube_rows::pow(n) - 1
+    bits::power(n) - 1
 }
 
 // The mask of a block's bits: one for each slot.
@@ -419,7 +419,7 @@ pub fn general(
     requires { ⌜ General m source w (now targets) (now places) (now counts) ⌝ }
     ensures { λ r. ⌜ Drawn (two m) source (now (targets .entry)) (now (places .entry)) (now (counts .entry)) (now (places .exit)) (now (counts .exit)) ⌝ }
 {
-    let size = cube_rows::pow(m);
+    let size = bits::power(m);
     let blocks = blocks_of(size, targets);
     let slots = slots_of(size, targets);
     let p0 = (source % size) as u32;

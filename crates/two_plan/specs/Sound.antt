@@ -9,7 +9,7 @@ use lib.ListN.{length, getD}
 use lib.Pow.{pow-pos}
 use Rattle.paths.specs.Mesh.{Mesh, width}
 use Rattle.requests.specs.Sound.{Sound}
-use Rattle.two.specs.Two.{two}
+use Rattle.two_parts.specs.Two.{two}
 use Rattle.two_write.specs.Rows.{Ready, Drawn}
 use Rattle.two_round.specs.Trip.{Trip}
 use Rattle.two_general.specs.General.{General}

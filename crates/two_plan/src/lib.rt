@@ -3,7 +3,7 @@ ghost use mathlib.Core.Path.{_≡_};
 ghost use mathlib.Core.Bool.{Bool, true, false};
 ghost use Prim.Native.Nat.{ℕ, _+_, _*_, _/_, _<_, _≤_};
 ghost use lib.ListN.{length, getD};
-ghost use Rattle.two.specs.Two.{two};
+ghost use Rattle.two_parts.specs.Two.{two};
 ghost use Rattle.two_write.specs.Rows.{Drawn};
 ghost use Rattle.two_plan.specs.Home.{Filling, Home};
 ghost use Rattle.two_plan.specs.Sound.{Asked};
@@ -43,8 +43,8 @@ fn all_home(size: u64, source: u64, targets: &[u64]) -> bool
     true
 }
 
-// Plans a sound request, where there is room.
-fn lay(m: u32, source: u64, targets: &[u64], w: usize, places: &mut [u64], counts: &mut [u64])
+// Plans a sound request, where there is room. Inner: `planner` calls it for a request that it has checked.
+pub fn lay(m: u32, source: u64, targets: &[u64], w: usize, places: &mut [u64], counts: &mut [u64])
     requires { ⌜ Asked m source w (now targets) (now places) (now counts) ⌝ }
     ensures { λ _. ⌜ Drawn (two m) source (now (targets .entry)) (now (places .entry)) (now (counts .entry)) (now (places .exit)) (now (counts .exit)) ⌝ }
 {
@@ -54,7 +54,7 @@ fn lay(m: u32, source: u64, targets: &[u64], w: usize, places: &mut [u64], count
         return;
     }
     if targets.len() == m as usize + 1 {
-        if all_home(cube_rows::pow(m), source, targets) {
+        if all_home(bits::power(m), source, targets) {
             two_round::plan(m, source, targets, w, places, counts);
             return;
         }

@@ -29,14 +29,14 @@ returns c = ring-drawn (c .before .before .before .before .before .before .befor
 add-if2 : tie.Need-add-if2
 add-if2 c = omega (arith, c .before .before .before .before .before .before .before .before .pre .high)
 
-pow-requires : tie.Need-pow-requires
-pow-requires c κs = omega (arith, c .before .before .before .before .before .before .before .before .before .pre .high)
+power-requires : tie.Need-power-requires
+power-requires c κs = omega (arith, c .before .before .before .before .before .before .before .before .before .pre .high)
 
 all-home-requires : tie.Need-all-home-requires
-all-home-requires c κs = home-size _ _ (c .pow .ensures)
+all-home-requires c κs = home-size _ _ (c .power .ensures)
 
 plan-requires-2 : tie.Need-plan-requires-2
-plan-requires-2 c κs = trip (c .before .before .before .before .before .before .before .before .before .before .before .before .before .before .pre) _ refl (c .before .before .before .before .before .before .before .before .before .fill .ensures) (c .before .before .before .before .before .before .if1 .left) _ (c .before .before .before .before .pow .ensures) (c .before .before .before .before .before .if2 .taken) (home-yes (c .before .before .if3 .taken) (c .before .before .before .all-home .ensures))
+plan-requires-2 c κs = trip (c .before .before .before .before .before .before .before .before .before .before .before .before .before .before .pre) _ refl (c .before .before .before .before .before .before .before .before .before .fill .ensures) (c .before .before .before .before .before .before .if1 .left) _ (c .before .before .before .before .power .ensures) (c .before .before .before .before .before .if2 .taken) (home-yes (c .before .before .if3 .taken) (c .before .before .before .all-home .ensures))
 
 same-length-3 : tie.Need-same-length-3
 same-length-3 c = search needs
@@ -48,7 +48,7 @@ returns-2 : tie.Need-returns-2
 returns-2 c = drawn-from (c .before .before .before .before .before .before .before .before .before .before .before .before .before .before .before .before .before .before .before .pre) _ refl (c .before .before .before .before .before .before .before .before .before .before .before .before .before .before .fill .ensures) (c .before .before .before .before .plan2 .ensures)
 
 general-requires : tie.Need-general-requires
-general-requires c κs = some-out (c .before .before .before .before .before .before .before .before .before .before .before .before .before .before .pre) _ refl (c .before .before .before .before .before .before .before .before .before .fill .ensures) (c .before .before .before .before .before .before .if1 .left) _ (c .before .before .before .before .pow .ensures) (home-no (c .before .before .if3 .left) (c .before .before .before .all-home .ensures))
+general-requires c κs = some-out (c .before .before .before .before .before .before .before .before .before .before .before .before .before .before .pre) _ refl (c .before .before .before .before .before .before .before .before .before .fill .ensures) (c .before .before .before .before .before .before .if1 .left) _ (c .before .before .before .before .power .ensures) (home-no (c .before .before .if3 .left) (c .before .before .before .all-home .ensures))
 
 same-length-5 : tie.Need-same-length-5
 same-length-5 c = search needs
@@ -82,7 +82,7 @@ lay-spec =
     same-length-2
     returns
     add-if2
-    pow-requires
+    power-requires
     all-home-requires
     plan-requires-2
     same-length-3
