@@ -43,7 +43,7 @@ use Rattle.sheet_write.specs.Says.{bytes}
 use Rattle.sheet_write.specs.Says as write
 use Rattle.sheet_write.specs.Needs.{Sheeted}
 use Rattle.sheet_write.specs.Writing.{judged-sheeted}
-use Rattle.sheet_write.specs.declared.Written.{Written}
+use Rattle.sheet.specs.declared.Written.{Written}
 use Rattle.host.specs.Says.{codeOf, most, targetsIn, listAgainst, planAgainst, Answered, Planned}
 use Rattle.host.specs.Needs.{Roomy, Layable, few}
 

@@ -15,15 +15,15 @@ use Rattle.mesh.specs.Limits.{known-width}
 use Rattle.mesh.specs.Requests.{neither-wanting}
 use Rattle.mesh.specs.declared.Mesh as code
 use Rattle.sheet.specs.Format.{VERSION, HEAD, lengthAt, versionAt, kindAt, sizeAt, countAt, sourceAt}
-use Rattle.sheet.specs.Says.{flawNumber, before}
+use Rattle.sheet.specs.Says.{flawNumber, before, reads, readNumber, readKind, readSize, readSource, readCount, readingTold}
 use Rattle.sheet.specs.Flaws.{flaw-some, flawed-none}
 use Rattle.sheet.specs.declared.Flaw.{Flaw}
 use Rattle.sheet.specs.declared.Flaw.the-variants as flaw
-use Rattle.sheet_check.specs.Says.{reads, readNumber, readKind, readSize, readSource, readCount, readingTold, cut, badCount, meshAt, headAgainst, pathsAgainst, checkAgainst, sheetTold}
+use Rattle.sheet_check.specs.Says.{cut, badCount, meshAt, headAgainst, pathsAgainst, checkAgainst, sheetTold}
 use Rattle.sheet_check.specs.Needs.{Bodied}
 use Rattle.sheet_check.specs.Told.{told-flaw}
-use Rattle.sheet_check.specs.declared.Reading.{Reading}
-use Rattle.sheet_check.specs.declared.Reading.the-variants as reading
+use Rattle.sheet.specs.declared.Reading.{Reading}
+use Rattle.sheet.specs.declared.Reading.the-variants as reading
 
 module _ (l : List ℕ) where
   -- the head is read

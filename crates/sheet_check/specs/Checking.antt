@@ -16,14 +16,14 @@ use Rattle.mesh.specs.Limits.{known-links, known-width, known-places}
 use Rattle.mesh.specs.declared.Mesh as code
 use Rattle.judge.specs.Says.{Ruling, numberOf}
 use Rattle.sheet.specs.Format.{HEAD, kindAt, sizeAt, countAt, sourceAt, pathsAt}
-use Rattle.sheet.specs.Says.{flawed, before}
+use Rattle.sheet.specs.Says.{flawed, before, reads, readingTold}
 use Rattle.sheet.specs.declared.Flaw.{Flaw}
 use Rattle.sheet.specs.declared.Flaw.the-variants as flaw
 use Rattle.sheet_take.specs.Says.{looked}
-use Rattle.sheet_check.specs.Says.{reads, readingTold, rulingOf, meshAt, sheetRuling, unjudged, pathsAgainst, sheetTold}
+use Rattle.sheet_check.specs.Says.{rulingOf, meshAt, sheetRuling, unjudged, pathsAgainst, sheetTold}
 use Rattle.sheet_check.specs.Needs.{Bodied, Judgeable}
 use Rattle.sheet_check.specs.Bodied.{mesh-is, body-known, body-few}
-use Rattle.sheet_check.specs.declared.Reading.the-variants as reading
+use Rattle.sheet.specs.declared.Reading.the-variants as reading
 
 module _ {l : List ℕ} {kind size s k : ℕ} (b : Bodied l kind size s k) {longest : ℕ} (e : longest ≡ meshOf kind size .longest) where
   pub looked-is : looked longest l HEAD 0 k ≡ looked (meshAt l .longest) l HEAD 0 (countAt l)

@@ -3,12 +3,13 @@ ghost use mathlib.Core.Path.{_≡_};
 ghost use lib.ListN.{length};
 ghost use Rattle.judge.specs.Says.{verdictTold};
 ghost use Rattle.sheet.specs.Format.{HEAD, pathsAt};
-ghost use Rattle.sheet_check.specs.Says.{readingTold, sheetTold, pathsAgainst, rulingOf};
+ghost use Rattle.sheet.specs.Says.{readingTold};
+ghost use Rattle.sheet_check.specs.Says.{sheetTold, pathsAgainst, rulingOf};
 ghost use Rattle.sheet_check.specs.Needs.{Bodied, Judgeable};
-use crate::Reading;
 use judge::Verdict;
 use mesh::Mesh;
 use sheet::Flaw;
+use sheet::Reading;
 use sheet_take::Looked;
 
 // The judge's verdict on the k paths, which were looked through, and on what they are asked for. They are taken into the slices lent for that.

@@ -17,7 +17,7 @@ use Rattle.mesh.specs.Says.{short}
 use Rattle.mesh.specs.Requests.{neither-wanting, room-enough}
 use Rattle.mesh.specs.declared.Mesh as code
 use Rattle.sheet.specs.Format.{HEAD, kindAt, sizeAt, countAt, sourceAt}
-use Rattle.sheet.specs.Says.{flawed, before, settled}
+use Rattle.sheet.specs.Says.{flawed, before, settled, reads, readingTold}
 use Rattle.sheet.specs.Flaws.{before-none}
 use Rattle.sheet.specs.Pieces.{at-front}
 use Rattle.sheet.specs.Lengths.{counts-length, targets-length, paths-length}
@@ -25,12 +25,12 @@ use Rattle.sheet.specs.declared.Flaw.{Flaw}
 use Rattle.sheet.specs.declared.Flaw.the-variants as flaw
 use Rattle.sheet_take.specs.Says.{looked, TakenPaths}
 use Rattle.sheet_take.specs.Needs.{Taken}
-use Rattle.sheet_check.specs.Says.{reads, readingTold, meshAt, sheetPaths, sheetTargets, sheetPlaces, sheetCounts, headAgainst, pathsAgainst, sheetTold}
+use Rattle.sheet_check.specs.Says.{meshAt, sheetPaths, sheetTargets, sheetPlaces, sheetCounts, headAgainst, pathsAgainst, sheetTold}
 use Rattle.sheet_check.specs.Needs.{Bodied}
 use Rattle.sheet_check.specs.Told.{told-flaw, told-none}
 use Rattle.sheet_check.specs.Bodied.{head-flaw, mesh-is, body-known}
-use Rattle.sheet_check.specs.declared.Reading.{Reading}
-use Rattle.sheet_check.specs.declared.Reading.the-variants as reading
+use Rattle.sheet.specs.declared.Reading.{Reading}
+use Rattle.sheet.specs.declared.Reading.the-variants as reading
 use Rattle.sheet_read.specs.Says.{lacking, readsAgainst, Read}
 
 -- a refusal leaves all as it was

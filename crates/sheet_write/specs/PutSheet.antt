@@ -18,15 +18,15 @@ use Rattle.mesh.specs.Kinds.{Kind, meshOf}
 use Rattle.mesh.specs.Laws.{known-case}
 use Rattle.sheet.specs.Format.{pathsBytes, pathsOf}
 use Rattle.sheet.specs.Lengths.{sheet-length, pathsFrom-length}
-use Rattle.sheet.specs.Says.{flawed, settled}
+use Rattle.sheet.specs.Says.{flawed, settled, wrote, tellWritten}
 use Rattle.sheet.specs.declared.Flaw.{Flaw}
 use Rattle.sheet.specs.declared.Flaw.the-variants as flaw
 use Rattle.sheet_put.specs.Needs.{Paths}
 use Rattle.sheet_put.specs.Total.{total, paths-total, total-most}
 use Rattle.sheet_write.specs.Heads.{headBytes, head-length, sheet-is}
 use Rattle.sheet_write.specs.Needs.{Sheeted}
-use Rattle.sheet_write.specs.Says.{wrote, tellWritten, bytes, putAgainst, Put}
-use Rattle.sheet_write.specs.declared.Written.the-variants as written
+use Rattle.sheet_write.specs.Says.{bytes, putAgainst, Put}
+use Rattle.sheet.specs.declared.Written.the-variants as written
 
 module _ (kind size s k : ℕ) (places counts out : List ℕ) (a : Sheeted kind size k (length places) counts) where
   abbrev w : ℕ

@@ -14,13 +14,13 @@ use Rattle.scan.specs.Scan.{pick}
 use Rattle.mesh.specs.Kinds.{kindOf}
 use Rattle.mesh.specs.Limits.{known-links, known-width}
 use Rattle.sheet.specs.Judging.{Judged, judged, judged-fine}
-use Rattle.sheet.specs.Says.{settled}
+use Rattle.sheet.specs.Says.{settled, tellWritten}
 use Rattle.sheet.specs.declared.Flaw.{Flaw}
 use Rattle.sheet.specs.declared.Flaw.the-variants as flaw
 use Rattle.sheet_write.specs.Needs.{Sheeted}
-use Rattle.sheet_write.specs.Says.{tellWritten, sheet, ruled, writeAgainst, Wrote, Put, putAgainst}
-use Rattle.sheet_write.specs.declared.Written.{Written}
-use Rattle.sheet_write.specs.declared.Written.the-variants as written
+use Rattle.sheet_write.specs.Says.{sheet, ruled, writeAgainst, Wrote, Put, putAgainst}
+use Rattle.sheet.specs.declared.Written.{Written}
+use Rattle.sheet.specs.declared.Written.the-variants as written
 
 -- what the judge accepts can be written
 pub judged-sheeted : (kind size s : ℕ) (targets places counts : List ℕ) → Judged (kindOf kind) size s targets places counts → Sheeted kind size (length targets) (length places) counts

@@ -5,7 +5,8 @@ use mathlib.Core.Option.{Option}
 use native.Mathlib.Omega.{arith}
 use Rattle.mesh.specs.Kinds.{meshOf}
 use Rattle.sheet.specs.Format.{kindAt, sizeAt, sourceAt, countAt}
-use Rattle.sheet_check.specs.Says.{tellRead, countAgainst, meshAt, sheetTold}
+use Rattle.sheet.specs.Says.{tellRead}
+use Rattle.sheet_check.specs.Says.{countAgainst, meshAt, sheetTold}
 use Rattle.sheet_check.specs.Heads.{head-few, head-long, head-version, head-unknown, head-known}
 use Rattle.sheet.specs.declared.Flaw.{Flaw}
 use borrow.Author.Needs.{needs}
