@@ -12,7 +12,7 @@ use lib.Dec.{eqb}
 use borrow.Author.Tests.{eq-eqb, ne-eqb}
 use Rattle.paths.specs.Mesh.{Mesh}
 use Rattle.mesh.specs.Kinds.{meshOf}
-use Rattle.mesh.specs.Limits.{known-links, known-width, known-places}
+use Rattle.mesh.specs.Limits.{mostLinks, mostPlaces, known-links, known-width, known-places}
 use Rattle.mesh.specs.declared.Mesh as code
 use Rattle.judge.specs.Says.{Ruling, numberOf}
 use Rattle.sheet.specs.Format.{HEAD, kindAt, sizeAt, countAt, sourceAt, pathsAt}
@@ -36,7 +36,7 @@ module _ {l : List ℕ} {kind size s k : ℕ} (b : Bodied l kind size s k) {long
   paths-flawed h = ap (sheetTold l) (paths-is {y = unjudged l} h refl)
 
   module _ (h : none ≡ looked longest l HEAD 0 k) where
-    pub paths-judgeable : Judgeable l kind size longest k 1242 32 32
+    pub paths-judgeable : Judgeable l kind size longest k mostPlaces mostLinks mostLinks
     paths-judgeable =
         let all = mul-le-mul-right (longest + 1) (body-few b) in
         record {
