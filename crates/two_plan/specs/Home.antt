@@ -1,40 +1,13 @@
--- Places filled, and whether all targets stand in the source's block. Assumes nothing.
+-- Whether all targets stand in the source's block (`Home`). Assumes nothing.
 use Prim.Native.Nat.{ℕ, _+_, _/_, _≤_, _<_}
-use mathlib.Core.Path.{_≡_, refl, sym, _∙_, subst}
+use mathlib.Core.Path.{_≡_, refl}
 use mathlib.Core.Bool.{Bool, true, false}
 use mathlib.Core.Logic.{_≢_}
 use mathlib.Core.List.{List}
 use native.Mathlib.Omega.{arith}
 use native.Mathlib.Decide.{ℕ-discrete}
-use lib.ListN.{length, getD, set, length-set}
-use lib.Seq.{getD-set-same, getD-set-other}
+use lib.ListN.{length, getD}
 use Rattle.scan.specs.Laws.{true-false}
-use Rattle.paths.specs.Fan as fan
-
--- the first i of n places hold filler, and the others are as they were
-pub record Filling (n : ℕ) (places₀ places : List ℕ) (i : ℕ) : Type 0 where
-  pub bound : i ≤ n
-  pub filled : (x : ℕ) → x < i → getD places x 0 ≡ fan.filler
-  pub rest : (x : ℕ) → i ≤ x → getD places x 0 ≡ getD places₀ x 0
-  pub long : length places ≡ length places₀
-
-pub filling-none : (n : ℕ) (places : List ℕ) → Filling n places places 0
-filling-none n places = record { bound = omega arith; filled = λ x h. absurd (omega arith); rest = λ x h. refl; long = refl }
-
-pub filling-more : {n : ℕ} {places₀ places : List ℕ} {i : ℕ} → n ≤ length places₀ → Filling n places₀ places i → i < n → Filling n places₀ (set places i fan.filler) (i + 1)
-filling-more {n} {places₀} {places} {i} room f h = record {
-  bound = omega arith;
-  filled = λ x l. by x l (ℕ-discrete x i);
-  rest = λ x l. getD-set-other places i x fan.filler 0 (λ z. omega arith) ∙ f .rest x (omega arith);
-  long = length-set places i fan.filler ∙ f .long;
-}
-  where
-    by : (x : ℕ) → x < i + 1 → Dec (x ≡ i) → getD (set places i fan.filler) x 0 ≡ fan.filler
-    by x l (yes z) = rw z (getD-set-same places i fan.filler 0 (omega (arith, f .long)))
-    by x l (no ne) = getD-set-other places i x fan.filler 0 ne ∙ f .filled x (omega arith)
-
-pub filling-all : {n : ℕ} {places₀ places : List ℕ} {i : ℕ} → n ≤ i → Filling n places₀ places i → Filling n places₀ places n
-filling-all {n} {places₀} {places} {i} h f = let e : i ≡ n = omega (arith, f .bound) in subst (Filling n places₀ places) e f
 
 -- ---- the source's block
 

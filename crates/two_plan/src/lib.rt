@@ -5,7 +5,7 @@ ghost use Prim.Native.Nat.{ℕ, _+_, _*_, _/_, _<_, _≤_};
 ghost use lib.ListN.{length, getD};
 ghost use Rattle.two_parts.specs.Two.{two};
 ghost use Rattle.two_write.specs.Rows.{Drawn};
-ghost use Rattle.two_plan.specs.Home.{Filling, Home};
+ghost use Rattle.two_plan.specs.Home.{Home};
 ghost use Rattle.two_plan.specs.Sound.{Asked};
 ghost use Rattle.mesh.specs.Kinds.{twos};
 ghost use Rattle.mesh.specs.Says.{requestAgainst, short};
@@ -15,18 +15,6 @@ use answers::Refusal;
 use mesh::Mesh;
 use paths::FILLER;
 use two::Order;
-
-// Fills the first n places.
-fn fill(n: usize, places: &mut [u64])
-    requires { ⌜ n ≤ length (now places) ⌝ }
-    ensures { λ _. ⌜ Filling n (now (places .entry)) (now (places .exit)) n ⌝ }
-{
-    let mut i: usize = 0;
-    while i < n {
-        places[i] = FILLER;
-        i += 1;
-    }
-}
 
 // Whether all targets stand in the source's block, where a block has `size` slots.
 fn all_home(size: u64, source: u64, targets: &[u64]) -> bool
@@ -48,7 +36,7 @@ pub fn lay(m: u32, source: u64, targets: &[u64], w: usize, places: &mut [u64], c
     requires { ⌜ Asked m source w (now targets) (now places) (now counts) ⌝ }
     ensures { λ _. ⌜ Drawn (two m) source (now (targets .entry)) (now (places .entry)) (now (counts .entry)) (now (places .exit)) (now (counts .exit)) ⌝ }
 {
-    fill(targets.len() * w, places);
+    scan::fill(places, 0, targets.len() * w, FILLER);
     if m == 1 {
         two_ring::plan(source, targets, places, counts);
         return;

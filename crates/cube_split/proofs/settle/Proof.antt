@@ -2,7 +2,7 @@
 use mathlib.Core.Path.{refl, _∙_}
 use native.Mathlib.Omega.{arith}
 use lib.ListN.{length-set}
-use Rattle.cube_split.specs.Fan.{settled}
+use Rattle.cube_split.specs.Fan.{filled, settled}
 use borrow.Author.Needs.{needs}
 use Rattle.cube_split.proofs.settle.Statement.{statement}
 use Rattle.cube_split.proofs.settle.Tie as tie
