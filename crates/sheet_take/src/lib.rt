@@ -3,7 +3,6 @@ ghost use mathlib.Core.Path.{_≡_};
 ghost use Prim.Native.Nat.{_+_, _*_, _≤_, _<_};
 ghost use lib.ListN.{length};
 ghost use lib.Seq.{sets};
-ghost use Rattle.paths.specs.Fan.{filler};
 ghost use Rattle.sheet.specs.Format.{HEAD, after, relaysAt, row};
 ghost use Rattle.sheet_take.specs.Says.{looked, wrongAt, tellStride, strideTold, lookedOf, TakenPaths};
 ghost use Rattle.sheet_take.specs.Needs.{Taken};
