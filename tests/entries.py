@@ -15,7 +15,7 @@ import tempfile
 from judge_model import WORD, asked, cases, fan, survivors
 
 ROOT = os.path.dirname(os.path.dirname(os.path.abspath(__file__)))
-DEPENDS = ("bits", "scan", "answers", "requests", "paths", "cube", "two", "hops", "mesh", "judge", "survivors", "entries", "script")
+DEPENDS = ("bits", "scan", "answers", "requests", "paths", "cube", "two_parts", "two", "two_distance", "mesh", "judge", "survivors", "entries", "script")
 PROGRAM = """
 // A case at a time: kind, size and source; targets, places, counts and stopped relays, each with its length before it; how many entries are lent.
 // A line has what is told, the count, and the entries, all (9, 9, 1) before, as they are afterwards.

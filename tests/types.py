@@ -12,7 +12,7 @@ import sys
 import tempfile
 
 ROOT = os.path.dirname(os.path.dirname(os.path.abspath(__file__)))
-DEPENDS = ("bits", "scan", "answers", "paths", "two")
+DEPENDS = ("bits", "scan", "answers", "paths", "two_parts", "two")
 HEAD = "use answers::Answer;\nuse answers::YesNo;\nuse two::Block;\nuse two::Order;\nuse two::Slot;\n"
 RIGHT = "pub fn f(b: Block, p: Slot) -> YesNo { two::linked_parts(Order(2), b, p, b, p) }"
 WRONG = {
@@ -33,7 +33,7 @@ def prepare(copy):
     with open(os.path.join(ROOT, "crates.txt"), encoding="utf-8") as listed:
         lines = [x for x in listed if x.split(":")[0] in DEPENDS]
     with open(os.path.join(copy, "crates.txt"), "w", encoding="utf-8") as listed:
-        listed.writelines(lines + ["types: answers two\n"])
+        listed.writelines(lines + ["types: answers two_parts two\n"])
     os.makedirs(os.path.join(copy, "crates/types/src"))
 
 
