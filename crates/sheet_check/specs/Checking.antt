@@ -15,7 +15,7 @@ use Rattle.mesh.specs.Kinds.{meshOf}
 use Rattle.mesh.specs.Laws.{known-small}
 use Rattle.mesh.specs.declared.Mesh as code
 use Rattle.judge.specs.Says.{Ruling, numberOf}
-use Rattle.sheet.specs.Format.{HEAD, kindAt, sizeAt, countAt, sourceAt, pathsAt}
+use Rattle.sheet.specs.Format.{HEAD, kindAt, sizeAt, countAt, pathsAt}
 use Rattle.sheet.specs.Says.{flawed, before, reads, readingTold}
 use Rattle.sheet.specs.Most.{known-room}
 use Rattle.sheet.specs.declared.Flaw.{Flaw}
