@@ -2,7 +2,7 @@
 -- sheet (`head-flawed`). Assumes nothing.
 use Prim.Native.Nat.{ℕ, _-_, _≤_}
 use mathlib.Core.Path.{_≡_, refl, sym, ap, ap₂, _∙_}
-use mathlib.Core.Bool.{Bool, true, false, not}
+use mathlib.Core.Bool.{true, false, not}
 use mathlib.Core.List.{List}
 use mathlib.Core.Option.{Option, none, some}
 use native.Mathlib.Omega.{arith}
@@ -14,7 +14,7 @@ use Rattle.mesh.specs.Kinds.{meshOf, known}
 use Rattle.mesh.specs.Limits.{known-width}
 use Rattle.mesh.specs.Requests.{neither-wanting}
 use Rattle.mesh.specs.declared.Mesh as code
-use Rattle.sheet.specs.Format.{VERSION, HEAD, lengthAt, versionAt, kindAt, sizeAt, countAt, sourceAt}
+use Rattle.sheet.specs.Format.{VERSION, HEAD, lengthAt, versionAt, kindAt, sizeAt, countAt}
 use Rattle.sheet.specs.Says.{flawNumber, before, reads, readNumber, readKind, readSize, readSource, readCount, readingTold}
 use Rattle.sheet.specs.Flaws.{flaw-some, flawed-none}
 use Rattle.sheet.specs.declared.Flaw.{Flaw}

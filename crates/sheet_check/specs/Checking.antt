@@ -15,7 +15,7 @@ use Rattle.mesh.specs.Kinds.{meshOf}
 use Rattle.mesh.specs.Limits.{mostLinks, mostPlaces, known-links, known-width, known-places}
 use Rattle.mesh.specs.declared.Mesh as code
 use Rattle.judge.specs.Says.{Ruling, numberOf}
-use Rattle.sheet.specs.Format.{HEAD, kindAt, sizeAt, countAt, sourceAt, pathsAt}
+use Rattle.sheet.specs.Format.{HEAD, kindAt, sizeAt, countAt, pathsAt}
 use Rattle.sheet.specs.Says.{flawed, before, reads, readingTold}
 use Rattle.sheet.specs.declared.Flaw.{Flaw}
 use Rattle.sheet.specs.declared.Flaw.the-variants as flaw

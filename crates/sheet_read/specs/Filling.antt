@@ -1,6 +1,6 @@
 -- Why the reader keeps its promise: what is wrong with the head (`head-refused`), want of room (`body-short`), what is wrong with the paths (`body-flawed`), and else the paths taken into
 -- the lent slices (`body-taken`, `body-fan`). Assumes nothing.
-use Prim.Native.Nat.{ℕ, _+_, _*_}
+use Prim.Native.Nat.{ℕ}
 use mathlib.Core.Path.{_≡_, refl, sym, ap, ap₂, _∙_, subst}
 use mathlib.Core.Bool.{Bool, true, false}
 use mathlib.Core.List.{List, _++_}
