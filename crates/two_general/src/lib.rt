@@ -434,16 +434,5 @@ pub fn general(
     let s0 = two_parts::block_of(order, source).0;
     let p0 = slot_of(order, source);
     let k = targets.len() as u32;
-    draw(
-        m,
-        s0,
-        p0,
-        source,
-        k,
-        w,
-        blocks,
-        slots,
-        places,
-        counts,
-    );
+    draw(m, s0, p0, source, k, w, blocks, slots, places, counts);
 }

@@ -66,24 +66,24 @@ module _ {m s w : ℕ} {targets places counts places₁ : List ℕ} (a : Asked m
     low₂ : 2 ≤ m
     low₂ = omega (arith, a .low)
 
-    pub trip : (size : ℕ) → size ≡ 2 ^ m → length targets ≡ m + 1 → Home size s targets true → Trip m s w targets places₁ counts
-    trip size e all h = record {
+    pub trip : length targets ≡ m + 1 → Home m s targets true → Trip m s w targets places₁ counts
+    trip all h = record {
       low = low₂;
       high = a .high;
       all = all;
-      home = λ j l. subst (λ (y : ℕ). getD targets j 0 / y ≡ s / y) e (h .all refl j l);
+      home = h .all refl;
       wide = a .wide;
       ready = ready;
     }
 
-    pub some-out : (size : ℕ) → size ≡ 2 ^ m → Home size s targets false → General m s w targets places₁ counts
-    some-out size e h =
+    pub some-out : Home m s targets false → General m s w targets places₁ counts
+    some-out h =
         let x = h .some refl in record {
           low = low₂;
           high = a .high;
           wide = a .wide;
           ready = ready;
-          some = inr (x .0, x .1, subst (λ (y : ℕ). getD targets (x .0) 0 / y ≢ s / y) e (x .2));
+          some = inr x;
         }
 
     pub few : length targets ≢ m + 1 → General m s w targets places₁ counts
@@ -96,6 +96,3 @@ home-yes {size} {s} {targets} e h = subst (Home size s targets) e h
 
 pub home-no : {size s : ℕ} {targets : List ℕ} {b : Bool} → b ≡ false → Home size s targets b → Home size s targets false
 home-no {size} {s} {targets} e h = subst (Home size s targets) e h
-
-pub home-size : (m size : ℕ) → size ≡ 2 ^ m → 0 < size
-home-size m size e = omega (arith, e, pow-pos m)

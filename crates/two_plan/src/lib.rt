@@ -16,14 +16,15 @@ use mesh::Mesh;
 use paths::FILLER;
 use two::Order;
 
-// Whether all targets stand in the source's block, where a block has `size` slots.
-fn all_home(size: u64, source: u64, targets: &[u64]) -> bool
-    requires { ⌜ 0 < size ⌝ }
-    ensures { λ r. ⌜ Home size source (now (targets .entry)) r ⌝ }
+// Whether all targets stand in the source's block.
+fn all_home(order: Order, source: u64, targets: &[u64]) -> bool
+    requires { ⌜ order .0 ≤ 5 ⌝ }
+    ensures { λ r. ⌜ Home (order .0) source (now (targets .entry)) r ⌝ }
 {
+    let home = two_parts::block_of(order, source).0;
     let mut i: usize = 0;
     while i < targets.len() {
-        if targets[i] / size != source / size {
+        if two_parts::block_of(order, targets[i]).0 != home {
             return false;
         }
         i += 1;
@@ -42,7 +43,7 @@ pub fn lay(m: u32, source: u64, targets: &[u64], w: usize, places: &mut [u64], c
         return;
     }
     if targets.len() == m as usize + 1 {
-        if all_home(bits::power(m), source, targets) {
+        if all_home(Order(m as u64), source, targets) {
             two_round::plan(m, source, targets, w, places, counts);
             return;
         }

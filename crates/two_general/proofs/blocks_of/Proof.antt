@@ -21,17 +21,17 @@ loop-holds : tie.Need-loop-holds Inv-loop μ-loop
 unfolding allZero
 loop-holds c = (omega arith, filled-none 8 _ _ refl refl)
 
-mul-r : tie.Need-mul-r Inv-loop μ-loop
-mul-r c = search needs
+mul-block-of : tie.Need-mul-block-of Inv-loop μ-loop
+mul-block-of c = search needs
 
-shared-slice-read-r : tie.Need-shared-slice-read-r Inv-loop μ-loop
-shared-slice-read-r c = search needs
+shared-slice-read-block-of : tie.Need-shared-slice-read-block-of Inv-loop μ-loop
+shared-slice-read-block-of c = search needs
 
 block-of-requires : tie.Need-block-of-requires Inv-loop μ-loop
 block-of-requires c κs = search needs
 
-mul-r-2 : tie.Need-mul-r-2 Inv-loop μ-loop
-mul-r-2 c = search needs
+mul-r : tie.Need-mul-r Inv-loop μ-loop
+mul-r c = search needs
 
 array-write-r : tie.Need-array-write-r Inv-loop μ-loop
 array-write-r c = search needs
@@ -43,7 +43,7 @@ loop-less : tie.Need-loop-less Inv-loop μ-loop
 loop-less c = search needs
 
 loop-again : tie.Need-loop-again Inv-loop μ-loop
-loop-again c = (omega arith, filled-more _ (c .before .before .before .loop .inv .1) (omega (arith, c .before .before .before .before .pre .1)) (c .block-of .ensures))
+loop-again c = (omega arith, filled-more _ (c .before .before .before .loop .inv .1) (omega (arith, c .before .before .before .before .before .pre .1)) (c .block-of .ensures))
 
 returns : tie.Need-returns Inv-loop μ-loop
 returns c = filled-all (omega arith) (c .before .loop .inv .1)
@@ -55,10 +55,10 @@ blocks-of-spec =
     Inv-loop
     μ-loop
     loop-holds
-    mul-r
-    shared-slice-read-r
+    mul-block-of
+    shared-slice-read-block-of
     block-of-requires
-    mul-r-2
+    mul-r
     array-write-r
     add-i
     loop-less

@@ -1,4 +1,4 @@
--- `two_draw::dimensions` meets its contract. Assumes nothing.
+-- `two_general::dimensions` meets its contract. Assumes nothing.
 use Prim.Native.Nat.{_-_}
 use mathlib.Core.Path.{_≡_, ap}
 use native.Mathlib.Omega.{arith}
