@@ -1,4 +1,4 @@
-// The steps of the planner of a fan through doors, in a grid (crate `grid`) whose rows hold their targets. Sets of dimensions and of rows are masks.
+// The steps of the planner of a fan through doors, in a grid (crate `cube_rows`) whose rows hold their targets. Sets of dimensions and of rows are masks.
 // Inner: its functions are called by the planner, which meets their `requires`.
 ghost use mathlib.Core.Path.{_≡_};
 ghost use mathlib.Core.List.{[], _∷_};

@@ -1,4 +1,4 @@
-// A fan through doors in a cube, built by recursion over the dimensions in a grid (crate `grid`), which is the lent places themselves.
+// A fan through doors in a cube, built by recursion over the dimensions in a grid (crate `cube_rows`), which is the lent places themselves.
 // Inner: `fan_through` is called by the planners that check a request first, and so meet its `requires`.
 ghost use mathlib.Core.Path.{_≡_};
 ghost use Prim.Native.Nat.{ℕ, _+_, _-_, _*_, _^_, _<_, _≤_};

@@ -1,4 +1,4 @@
--- `moves::divide` meets its contract. Assumes nothing.
+-- `cube_moves::divide` meets its contract. Assumes nothing.
 use mathlib.Core.Path.{refl}
 use Rattle.cube_rows.specs.Grid.{rows-part}
 use Rattle.cube_moves.specs.Halves.{halved, halved-room, home-chosen, divided}

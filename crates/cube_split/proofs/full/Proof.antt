@@ -1,4 +1,4 @@
--- `cube_plan::full` meets its contract. Assumes nothing.
+-- `cube_split::full` meets its contract. Assumes nothing.
 use native.Mathlib.Omega.{arith}
 use lib.Pow.{pow-pos}
 use borrow.Author.Needs.{needs}

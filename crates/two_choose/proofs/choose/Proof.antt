@@ -1,4 +1,4 @@
--- `two_sort::choose` meets its contract: each call is asked what the calls before it give. Assumes nothing.
+-- `two_choose::choose` meets its contract: each call is asked what the calls before it give. Assumes nothing.
 use Prim.Native.Nat.{ℕ, _-_, _^_}
 use mathlib.Core.Path.{_∙_, ap}
 use native.Mathlib.Nat.{one-mul}

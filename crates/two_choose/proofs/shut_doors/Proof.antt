@@ -1,4 +1,4 @@
--- `two_sort::shut_doors` meets its contract. Assumes nothing.
+-- `two_choose::shut_doors` meets its contract. Assumes nothing.
 use Prim.Native.Nat.{ℕ, _≤_, _-_, _^_}
 use mathlib.Core.Path.{_≡_, sym, subst, ap}
 use native.Mathlib.Omega.{arith}

@@ -1,4 +1,4 @@
--- `two_sort::values` meets its contract. Assumes nothing.
+-- `two_choose::values` meets its contract. Assumes nothing.
 use mathlib.Core.Path.{_≡_, refl, subst}
 use Prim.Native.Nat.{ℕ}
 use lib.Count.{ones}
