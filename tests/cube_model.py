@@ -1,27 +1,9 @@
 #!/usr/bin/env python3
-"""cube_model.py: what crates/cube_cases is to write, from the specification's rules alone.
-
-    python3 tests/cube_model.py | diff - crates/cube_cases/stdout
-"""
+"""The plain cube, its routes and its fans, from the specification's rules alone."""
 
 WORD = 2**64 - 1
+FILLER = 2**64 - 1
 UNTOUCHED = 77
-
-SIZES = [0, 1, 2, 4, 31, 32, 33, 64, WORD]
-
-# size, source, target, and the places that the first of three routes is given: one less than it needs, where there is one
-ACCEPTED = [
-    (1, 0, 0, 0), (1, 0, 1, 1), (1, 1, 0, 1), (4, 0, 11, 3), (4, 11, 0, 3), (4, 3, 11, 1), (4, 3, 4, 3), (4, 9, 9, 0), (4, 15, 0, 4),
-    (32, 2**32 - 1, 2**32 - 1, 0), (32, 0, 2**32 - 1, 32), (32, 2**32 - 1, 0, 32), (32, 2**31, 0, 1),
-]
-REFUSED = [
-    # one fault
-    (0, 0, 0, 0), (33, 9, 9, 0), (WORD, 0, 1, 1), (1, 2, 0, 1), (4, 16, 0, 1), (32, 2**32, 0, 1), (1, 0, 2, 1), (4, 0, 16, 1), (32, 0, 2**32, 1),
-    # two
-    (0, 1, 0, 1), (33, WORD, 0, 1), (0, 0, 1, 1), (33, 0, WORD, 1), (4, 16, 16, 0), (4, 16, 17, 1), (32, WORD, 2**32, 2),
-    # three
-    (0, 5, 6, 2), (33, WORD, WORD - 1, 1),
-]
 
 
 def known(n):
@@ -52,39 +34,44 @@ def linked(s, t):
     return sum((s >> i) % 2 != (t >> i) % 2 for i in range(64)) == 1
 
 
-def line(words, told, rest=()):
-    print(" ".join(str(w) for w in words) + ": " + " ".join(str(w) for w in [*told, *rest]))
+def bits(x):
+    return bin(x).count("1")
 
 
-def facts(n):
-    line(["known", n], [int(known(n))])
-    for name, value in (("relays", lambda: 2**n), ("links", lambda: n), ("longest", lambda: n + 1), ("places", lambda: n + 2)):
-        line([name, n], [0, 0, value()] if known(n) else [1, 0, 0])
+def plan_refusal(n, source, doors, targets, room, counted):
+    """Number and place of the first reason against a request, or 0 and 0."""
+    if not 1 <= n <= 32:
+        return 1, 0
+    if source >= 2**n:
+        return 2, 0
+    if not targets:
+        return 3, 0
+    if len(targets) > n:
+        return 4, 0
+    for number, wrong in ((5, lambda i: targets[i] >= 2**n), (6, lambda i: targets[i] == source), (7, lambda i: targets[i] in targets[:i])):
+        for i in range(len(targets)):
+            if wrong(i):
+                return number, i
+    if doors >= 2**n or bits(doors) < len(targets):
+        return 11, 0
+    if room < len(targets) * (n + 2) or counted < len(targets):
+        return 8, 0
+    return 0, 0
 
 
-def route(n, s, t, room):
-    places = [UNTOUCHED] * (room + 2)
-    number, value = refusal(n, s, t), 0
-    if number == 0:
-        path = steps(s, t)
-        if room < len(path):
-            number = 8
-        else:
-            value = len(path) - 1
-            places[: len(path)] = path
-    line(["route", n, s, t, "in", room], [number, 0, value], ["holds", *places])
-
-
-def pair(n, s, t, room):
-    number = refusal(n, s, t)
-    line(["linked", n, s, t], [number, 0, int(number == 0 and linked(s, t))])
-    line(["next", n, s, t], [number, 0, 0 if number else steps(s, t)[1] if s != t else s])
-    for more in range(3):
-        route(n, s, t, room + more)
-
-
-if __name__ == "__main__":
-    for size in SIZES:
-        facts(size)
-    for case in ACCEPTED + REFUSED:
-        pair(*case)
+def fan(n, source, doors, targets, places, counts):
+    """Whether places and counts are a fan through the doors, and untouched beyond it."""
+    width, seen = n + 2, {source}
+    for i, target in enumerate(targets):
+        path, hops = places[i * width:(i + 1) * width], counts[i]
+        if hops > n + 1 or path[0] != source or path[hops] != target or any(x != FILLER for x in path[hops + 1:]):
+            return False
+        for p in range(1, hops + 1):
+            link = path[p] ^ source
+            if path[p] >= 2**n or bits(path[p] ^ path[p - 1]) != 1 or path[p] in seen:
+                return False
+            if bits(link) == 1 and not link & doors and (p == 1 or p != hops):
+                return False
+            seen.add(path[p])
+    k = len(targets)
+    return all(x == UNTOUCHED for x in places[k * width:] + counts[k:])

@@ -7,15 +7,13 @@ What lends a list of structs has a proof by hand (docs/DECISIONS.md), so the pro
 Run it after `rt check entries script`: what is proved is not proved again.
 """
 import os
-import shutil
 import subprocess
 import sys
 import tempfile
 
+import partial
 from judge_model import WORD, asked, cases, fan, survivors
 
-ROOT = os.path.dirname(os.path.dirname(os.path.abspath(__file__)))
-DEPENDS = ("bits", "scan", "answers", "requests", "paths", "cube", "two", "hops", "mesh", "judge", "survivors", "entries", "script")
 PROGRAM = """
 // A case at a time: kind, size and source; targets, places, counts and stopped relays, each with its length before it; how many entries are lent.
 // A line has what is told, the count, and the entries, all (9, 9, 1) before, as they are afterwards.
@@ -92,31 +90,24 @@ def answered(*case):
     return "".join(f" {x}" for x in [*told, count, *sum(entries, [])])
 
 
-def prepare(copy):
+def prepare(folder):
     """A copy of the repository as far as the crate entries reaches, with the program."""
-    for name in DEPENDS:
-        shutil.copytree(os.path.join(ROOT, "crates", name), os.path.join(copy, "crates", name))
-    shutil.copytree(os.path.join(ROOT, "target/rlib"), os.path.join(copy, "target/rlib"))
-    shutil.copytree(os.path.join(ROOT, "target/stamp"), os.path.join(copy, "target/stamp"))
-    with open(os.path.join(ROOT, "crates.txt"), encoding="utf-8") as all_crates:
-        lines = [x for x in all_crates if x.split(":")[0] in DEPENDS]
-    with open(os.path.join(copy, "crates.txt"), "w", encoding="utf-8") as some:
-        some.writelines(lines + ["entries_cases: mesh survivors entries script io libc\n"])
-    os.makedirs(os.path.join(copy, "crates/entries_cases/src"))
-    with open(os.path.join(copy, "crates/entries_cases/src/main.rt"), "w", encoding="utf-8") as source:
+    sources = partial.copy(folder, ["entries", "script"], "entries_cases", ["answers", "mesh", "survivors", "entries", "script", "io", "libc"])
+    crate = os.path.dirname(sources)
+    with open(os.path.join(sources, "main.rt"), "w", encoding="utf-8") as source:
         source.write(PROGRAM)
-    with open(os.path.join(copy, "crates/entries_cases/stdin"), "w", encoding="utf-8") as lines:
+    with open(os.path.join(crate, "stdin"), "w", encoding="utf-8") as lines:
         for *case, room in listed():
             lines.write(asked(*case, (room,)) + "\n")
-    with open(os.path.join(copy, "crates/entries_cases/stdout"), "w", encoding="utf-8") as lines:
+    with open(os.path.join(crate, "stdout"), "w", encoding="utf-8") as lines:
         for case in listed():
             lines.write(answered(*case) + "\n")
 
 
 def main():
-    with tempfile.TemporaryDirectory() as copy:
-        prepare(copy)
-        done = subprocess.run(["rt", "try", "entries_cases"], cwd=copy, capture_output=True, text=True, check=False)
+    with tempfile.TemporaryDirectory() as folder:
+        prepare(folder)
+        done = subprocess.run(["rt", "try", "entries_cases"], cwd=folder, capture_output=True, text=True, check=False)
         if done.returncode != 0:
             sys.exit(f"entries: FAILED\n{(done.stdout + done.stderr)[-2000:]}")
     print(f"entries: {len(list(listed()))} lists are as the model has them")

@@ -1,12 +1,8 @@
 #!/usr/bin/env python3
-"""What crates/judge_cases is asked, and what it is to write, from the specification's rules alone.
-
-    python3 tests/judge_model.py stdin | cmp - crates/judge_cases/stdin
-    python3 tests/judge_model.py stdout | cmp - crates/judge_cases/stdout
+"""The judge and the survivors, from the specification's rules alone; and the plans that crates/mesh_cases judges.
 
 The meshes are mesh_model.py's. Fans are planned here by a search for paths that share nothing, and then damaged.
 """
-import sys
 from collections import deque
 
 from mesh_model import WORD, mesh_of
@@ -283,8 +279,3 @@ def answered(kind, size, s, targets, places, counts, stopped, room):
     for name, column in zip(("targets", "hops", "whole"), columns):
         words += [name, *column]
     return " ".join(map(str, words))
-
-
-if __name__ == "__main__":
-    for case in cases():
-        print(asked(*case) if sys.argv[1] == "stdin" else answered(*case))

@@ -1,12 +1,8 @@
 #!/usr/bin/env python3
-"""What crates/mesh_cases is asked, and what it is to write, from the specification's rules alone.
-
-    python3 tests/mesh_model.py stdin | cmp - crates/mesh_cases/stdin
-    python3 tests/mesh_model.py stdout | cmp - crates/mesh_cases/stdout
+"""The meshes of both kinds, from the specification's rules alone; and the pairs that crates/mesh_cases is asked of.
 
 The cube is cube_model.py's and the two-level mesh two_model.py's: neither shares anything with the code.
 """
-import sys
 
 import cube_model
 import two_model
@@ -114,12 +110,3 @@ def cases():
     yield 1, 4, 0, 11, 6
     for t in range(8):
         yield 2, 1, 0, t, 8
-
-
-if __name__ == "__main__":
-    for case in cases():
-        if sys.argv[1] == "stdin":
-            print(*case)
-        else:
-            print(facts(*case[:2]))
-            print(pair(*case))

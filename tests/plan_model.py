@@ -1,12 +1,8 @@
 #!/usr/bin/env python3
-"""What crates/plan_cases is asked; and what it wrote, held to the specification's rules: each refusal by its number and place with the slices
-untouched, each fan relay by relay, by the judge of judge_model.py.
-
-    python3 tests/plan_model.py stdin | cmp - crates/plan_cases/stdin
-    python3 tests/plan_model.py judge crates/plan_cases/stdout
+"""The requests that crates/mesh_cases plans; and what it wrote of them, held to the specification's rules: each refusal by its number and place with the
+slices untouched, each fan relay by relay, by the judge of judge_model.py.
 """
 import random
-import sys
 
 from judge_model import FILLER, finding, request
 from mesh_model import WORD, mesh_of
@@ -120,18 +116,15 @@ def judged(kind, size, source, targets, room, counted, lines):
     return lines[k + 2 :], True
 
 
-def main():
-    if sys.argv[1] == "stdin":
-        for kind, size, source, targets, room, counted in cases():
-            print(*("F" if x == WORD else x for x in (kind, size, source, len(targets), *targets, room, counted)))
-        return
-    lines = open(sys.argv[2]).read().splitlines()
+def asked(kind, size, source, targets, room, counted):
+    return " ".join("F" if x == WORD else str(x) for x in (kind, size, source, len(targets), *targets, room, counted))
+
+
+def judge(lines):
+    """Holds the lines of all cases to the rules."""
     fans = refusals = 0
     for case in cases():
         lines, due = judged(*case, lines)
         fans, refusals = fans + due, refusals + (not due)
     assert not lines, lines[0]
-    print(f"plan_cases: {fans} fans and {refusals} refusals are as the rules say")
-
-
-main()
+    return f"{fans} fans and {refusals} refusals of the planner"

@@ -2,14 +2,12 @@
 """The writer and the reader of sheets, from the specification's rules alone; and the cases that a program over the routines can be asked.
 
     python3 tests/sheet_model.py            both round trips over every case, case I, and the sheets of docs/SHEETS.md
-    python3 tests/sheet_model.py stdin      what crates/sheet_cases is asked, a case to a line
-    python3 tests/sheet_model.py stdout     what it is to answer
     python3 tests/sheet_model.py fans       how many fans there are
-    python3 tests/sheet_model.py stdin N    what it can be asked of fan N: every byte of its sheet damaged, the sheet cut to every length
+    python3 tests/sheet_model.py stdin N    what crates/mesh_cases can be asked of fan N: every byte of its sheet damaged, the sheet cut to every length
     python3 tests/sheet_model.py stdout N   what it is to answer
 
-A line that asks the writer: 1, kind, size, source; targets, places and counts, each with its length before it; how many bytes are lent.
-A line that asks the reader: 2; the bytes, with their length before them; how many places, counts and target places are lent.
+A line that asks the writer: 5, kind, size, source; targets, places and counts, each with its length before it; how many bytes are lent.
+A line that asks the reader: 6; the bytes, with their length before them; how many places, counts and target places are lent.
 Lent slices hold 9 (bytes: 249) before, and are answered whole. F is 2^64 - 1.
 
 The judge is judge_model.py's and the meshes are mesh_model.py's: neither shares anything with the code.
@@ -192,9 +190,9 @@ def run(items):
 
 def asked(some, damage):
     for kind, size, s, targets, places, counts, room in writer_cases(some):
-        yield words([1, kind, size, s, *run(targets), *run(places), *run(counts), room]).replace(str(FILLER), "F")
+        yield words([5, kind, size, s, *run(targets), *run(places), *run(counts), room]).replace(str(FILLER), "F")
     for data, room in reader_cases(some, damage):
-        yield words([2, *run(data), *room])
+        yield words([6, *run(data), *room])
 
 
 def answered(some, damage):
@@ -245,18 +243,17 @@ def worked():
     assert shown == [in_hex(case_i), in_hex(sheet(1, 2, 0, [[2, 3], [1]]))], shown
 
 
-def main(side, number):
+def small():
     """The program's own cases are those of two small fans, no byte damaged."""
-    some = [f for f in fans() if f[:4] in ((1, 2, 0, [3, 1]), (2, 1, 0, [5, 1]))] if number is None else [list(fans())[number]]
-    for line in (asked if side == "stdin" else answered)(some, number is not None):
-        print(line)
+    return [f for f in fans() if f[:4] in ((1, 2, 0, [3, 1]), (2, 1, 0, [5, 1]))]
 
 
 if __name__ == "__main__":
     if sys.argv[1:] == ["fans"]:
         print(len(list(fans())))
     elif len(sys.argv) > 1:
-        main(sys.argv[1], int(sys.argv[2]) if len(sys.argv) > 2 else None)
+        for line in (asked if sys.argv[1] == "stdin" else answered)([list(fans())[int(sys.argv[2])]], True):
+            print(line)
     else:
         there_and_back()
         count = back_and_there()

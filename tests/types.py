@@ -6,13 +6,12 @@
 Run it after `rt check two`: what is proved is not proved again.
 """
 import os
-import shutil
 import subprocess
 import sys
 import tempfile
 
-ROOT = os.path.dirname(os.path.dirname(os.path.abspath(__file__)))
-DEPENDS = ("bits", "scan", "answers", "paths", "two")
+import partial
+
 HEAD = "use answers::Answer;\nuse answers::YesNo;\nuse two::Block;\nuse two::Order;\nuse two::Slot;\n"
 RIGHT = "pub fn f(b: Block, p: Slot) -> YesNo { two::linked_parts(Order(2), b, p, b, p) }"
 WRONG = {
@@ -22,36 +21,21 @@ WRONG = {
 }
 
 
-def prepare(copy):
-    """A copy of the repository as far as the crate two reaches, with one crate more."""
-    for name in DEPENDS:
-        shutil.copytree(os.path.join(ROOT, "crates", name), os.path.join(copy, "crates", name))
-    os.makedirs(os.path.join(copy, "target/stamp"))
-    for name in DEPENDS:
-        shutil.copytree(os.path.join(ROOT, "target/rlib", name + ".rlib"), os.path.join(copy, "target/rlib", name + ".rlib"))
-        shutil.copy(os.path.join(ROOT, "target/stamp", name), os.path.join(copy, "target/stamp"))
-    with open(os.path.join(ROOT, "crates.txt"), encoding="utf-8") as listed:
-        lines = [x for x in listed if x.split(":")[0] in DEPENDS]
-    with open(os.path.join(copy, "crates.txt"), "w", encoding="utf-8") as listed:
-        listed.writelines(lines + ["types: answers two\n"])
-    os.makedirs(os.path.join(copy, "crates/types/src"))
-
-
-def said(copy, code):
-    with open(os.path.join(copy, "crates/types/src/lib.rt"), "w", encoding="utf-8") as source:
+def said(sources, code):
+    with open(os.path.join(sources, "lib.rt"), "w", encoding="utf-8") as source:
         source.write(HEAD + code + "\n")
-    done = subprocess.run(["rt", "dev", "types"], cwd=copy, capture_output=True, text=True, check=False)
+    done = subprocess.run(["rt", "dev", "types"], cwd=sources, capture_output=True, text=True, check=False)
     return done.returncode, done.stdout + done.stderr
 
 
 def main():
-    with tempfile.TemporaryDirectory() as copy:
-        prepare(copy)
-        status, words = said(copy, RIGHT)
+    with tempfile.TemporaryDirectory() as folder:
+        sources = partial.copy(folder, ["two"], "types", ["answers", "two_parts", "two"])
+        status, words = said(sources, RIGHT)
         if status != 0:
             sys.exit(f"the right code is refused:\n{words[-800:]}")
         for name, code in WRONG.items():
-            status, words = said(copy, code)
+            status, words = said(sources, code)
             if status == 0 or "mismatched-types" not in words:
                 sys.exit(f"{name}: not refused for its types\n{words[-800:]}")
             print(f"{name}: refused")

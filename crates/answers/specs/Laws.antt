@@ -1,14 +1,13 @@
 -- Answers that tell the same are the same (`answer-unique`, `yes-no-unique`, `checked-unique`): so a promise of what an answer tells leaves
--- one answer. Assumes nothing.
+-- one answer. The numbers of refusals are neither 0 nor those of findings (`number-apart`). Assumes nothing.
 use Prim.Native.Nat.{ℕ, zero, suc, _<_}
 use mathlib.Core.Path.{_≡_, refl, sym, ap, _∙_}
 use mathlib.Core.Bool.{Bool, true, false}
 use mathlib.Core.Option.{Option, none, some}
 use native.Mathlib.Omega.{arith}
 use lib.Dec.{eqb, leb}
-use borrow.Author.Tests.{ne-eqb, lt-leb}
 use Rattle.scan.specs.Scan.{pick}
-use Rattle.answers.specs.Told.{number, place, Told, told, tell, answerTold, yesNoTold, against}
+use Rattle.answers.specs.Told.{number, place, Told, told, tell, answerTold, yesNoTold, checkedTold, against}
 use Rattle.answers.specs.declared.Refusal.{Refusal}
 use Rattle.answers.specs.declared.Refusal.the-variants.{Unreadable, UnknownSize, NoDistance, SourceOut, NoTarget, TooMany, TargetOut, TargetIsSource, TargetAgain, BadDoors, NoRoom}
 use Rattle.answers.specs.declared.Answer.{Answer}
@@ -17,6 +16,10 @@ use Rattle.answers.specs.declared.Checked.{Checked}
 use Rattle.answers.specs.declared.Checked.the-variants as checked
 use Rattle.answers.specs.declared.YesNo.{YesNo}
 use Rattle.answers.specs.declared.YesNo.the-variants as yesno
+
+-- the numbers of the judge's findings
+unfoldable pub isFinding : ℕ → Bool
+isFinding n = pick (leb 20 n) (leb n 25) false
 
 -- the refusal of a number and a place
 pub refusal : ℕ → ℕ → Refusal
@@ -46,25 +49,37 @@ refusal-back (TargetAgain p) = refl
 refusal-back BadDoors = refl
 refusal-back NoRoom = refl
 
--- the numbers of refusals: none is 0, and all are below those of the findings
-pub number-within : (why : Refusal) → (0 < number why) × (number why < 20)
-number-within Unreadable = omega arith
-number-within UnknownSize = omega arith
-number-within NoDistance = omega arith
-number-within SourceOut = omega arith
-number-within NoTarget = omega arith
-number-within TooMany = omega arith
-number-within (TargetOut p) = omega arith
-number-within (TargetIsSource p) = omega arith
-number-within (TargetAgain p) = omega arith
-number-within BadDoors = omega arith
-number-within NoRoom = omega arith
+-- the numbers of refusals: none is 0, and none is that of a finding, 20 to 25
+pub number-apart : (why : Refusal) → (eqb (number why) 0 ≡ false) × (isFinding (number why) ≡ false)
+unfolding isFinding
+number-apart Unreadable = (refl, refl)
+number-apart UnknownSize = (refl, refl)
+number-apart NoDistance = (refl, refl)
+number-apart SourceOut = (refl, refl)
+number-apart NoTarget = (refl, refl)
+number-apart TooMany = (refl, refl)
+number-apart (TargetOut p) = (refl, refl)
+number-apart (TargetIsSource p) = (refl, refl)
+number-apart (TargetAgain p) = (refl, refl)
+number-apart BadDoors = (refl, refl)
+number-apart NoRoom = (refl, refl)
+
+-- they have two digits at most
+pub number-few : (why : Refusal) → number why < 100
+number-few Unreadable = omega arith
+number-few UnknownSize = omega arith
+number-few NoDistance = omega arith
+number-few SourceOut = omega arith
+number-few NoTarget = omega arith
+number-few TooMany = omega arith
+number-few (TargetOut p) = omega arith
+number-few (TargetIsSource p) = omega arith
+number-few (TargetAgain p) = omega arith
+number-few BadDoors = omega arith
+number-few NoRoom = omega arith
 
 pub number-some : (why : Refusal) → eqb (number why) 0 ≡ false
-number-some why = ne-eqb (number why) 0 (λ e. omega (arith, number-within why .0))
-
-pub number-below : (why : Refusal) → leb 20 (number why) ≡ false
-number-below why = lt-leb 20 (number why) (number-within why .1)
+number-some why = number-apart why .0
 
 answerOf : Told ℕ → Answer
 answerOf (told n p v) = pick (eqb n 0) (answer.Value v) (answer.Refused (refusal n p))
@@ -92,6 +107,18 @@ yes-no-back (yesno.Refused why) =
 
 pub yes-no-unique : (a b : YesNo) → yesNoTold a ≡ yesNoTold b → a ≡ b
 yes-no-unique a b e = sym (yes-no-back a) ∙ ap yesNoOf e ∙ yes-no-back b
+
+-- what is told of a refusal, or of none, says which it was
+againstOf : Told ℕ → Option Refusal
+againstOf (told n p v) = pick (eqb n 0) none (some (refusal n p))
+
+tell-back : (o : Option Refusal) → againstOf (tell o 0 0) ≡ o
+unfolding againstOf
+tell-back none = refl
+tell-back (some why) = ap (λ (b : Bool). pick b none (some (refusal (number why) (place why)))) (number-some why) ∙ ap some (refusal-back why)
+
+pub checked-against : (r : Checked) (o : Option Refusal) → checkedTold r ≡ tell o 0 0 → against r ≡ o
+checked-against r o e = sym (tell-back (against r)) ∙ ap againstOf e ∙ tell-back o
 
 pub checked-unique : (a b : Checked) → against a ≡ against b → a ≡ b
 checked-unique checked.Fine checked.Fine e = refl

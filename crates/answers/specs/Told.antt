@@ -77,3 +77,7 @@ yesNoTold (yesno.Refused why) = tell (some why) false false
 abbrev pub against : Checked → Option Refusal
 against checked.Fine = none
 against (checked.Refused why) = some why
+
+-- number and place of what was checked; there is no value
+abbrev pub checkedTold : Checked → Told ℕ
+checkedTold r = tell (against r) 0 0

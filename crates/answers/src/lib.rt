@@ -153,3 +153,25 @@ impl YesNo {
         }
     }
 }
+
+impl Checked {
+    // 0, or the reason's number.
+    pub fn number(self) -> u64
+        ensures { λ r. ⌜ r ≡ specs.numberOf (specs.checkedTold self) ⌝ }
+    {
+        match self {
+            Checked::Fine => 0,
+            Checked::Refused(why) => why.number(),
+        }
+    }
+
+    // 0, or the reason's place.
+    pub fn place(self) -> usize
+        ensures { λ r. ⌜ r ≡ specs.placeOf (specs.checkedTold self) ⌝ }
+    {
+        match self {
+            Checked::Fine => 0,
+            Checked::Refused(why) => why.place(),
+        }
+    }
+}

@@ -10,8 +10,8 @@ use Rattle.paths.specs.Walk as walk
 use Rattle.cube.specs.Route as cube
 use Rattle.cube.specs.Says.{routeTold, routeLeaves}
 use Rattle.two.specs.Cases.{CaseA, CaseB, CaseD, CaseE, case-a, case-b, case-d, case-e}
-use Rattle.hops.specs.Cases.{CaseF, case-f}
-use Rattle.cube_fan.specs.Cases.{CaseG, case-g}
+use Rattle.two_distance.specs.Cases.{CaseF, case-f}
+use Rattle.cube_plan.specs.Cases.{CaseG, case-g}
 use Rattle.two_plan.specs.Cases.{CaseH, case-h}
 use Rattle.sheet.specs.Cases.{CaseI, case-i}
 

@@ -1,2 +1,3 @@
--- The worked cases, proved from the definitions.
+-- The worked cases, and the order of the refusals, proved from the definitions.
 pub mod Cases
+pub mod Orders

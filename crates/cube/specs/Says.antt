@@ -5,19 +5,24 @@ use mathlib.Core.List.{List, _++_}
 use mathlib.Core.Option.{Option}
 use lib.Dec.{leb}
 use lib.ListN.{length, drop}
-use Rattle.answers.specs.Order.{first, sizeFaults, pairFaults}
+use Rattle.answers.specs.Order.{Fault, first, sizeFaults, pairFaults, roomFaults}
 use Rattle.answers.specs.Told.{Told, tell, leaves}
 use Rattle.answers.specs.declared.Refusal.{Refusal}
 use Rattle.cube.specs.Cube.{known, linked}
 use Rattle.cube.specs.Route.{next, hops, route}
 
--- what stands against a size: 1
-abbrev pub sizeAgainst : (n : ℕ) → Option Refusal
-sizeAgainst n = first (sizeFaults (not (known n)))
+-- what may stand against a size: 1; against a source and a target: 1, 2, 5, and 8 where there is no room
+abbrev pub sizeFaultsIn : (n : ℕ) → List Fault
+sizeFaultsIn n = sizeFaults (not (known n))
 
--- what stands against a source and a target: 1, 2, 5, and 8 where there is no room
+abbrev pub pairFaultsIn : (n s t : ℕ) (room : Bool) → List Fault
+pairFaultsIn n s t room = sizeFaultsIn n ++ pairFaults (2 ^ n) s t ++ roomFaults room
+
+abbrev pub sizeAgainst : (n : ℕ) → Option Refusal
+sizeAgainst n = first (sizeFaultsIn n)
+
 abbrev pub pairAgainst : (n s t : ℕ) (room : Bool) → Option Refusal
-pairAgainst n s t room = first (pairFaults (not (known n)) false (2 ^ n) s t room)
+pairAgainst n s t room = first (pairFaultsIn n s t room)
 
 -- what stands against a route into so many places: they are to be one more than its hops
 abbrev pub routeAgainst : (n s t places : ℕ) → Option Refusal

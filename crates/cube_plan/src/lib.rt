@@ -1,122 +1,119 @@
-// A fan through doors in a cube, built by recursion over the dimensions in a grid (crate `grid`), which is the lent places themselves.
-// Inner: `fan_through` is called by the planners that check a request first, and so meet its `requires`.
+// The planners of the cube: paths from a relay to others that meet nowhere but in it.
 ghost use mathlib.Core.Path.{_≡_};
-ghost use Prim.Native.Nat.{ℕ, _+_, _-_, _*_, _^_, _<_, _≤_};
-ghost use lib.ListN.{length, getD};
-ghost use Rattle.cube_plan.specs.Plan.{Asked, Planned};
-ghost use Rattle.cube_plan.specs.Fan.{Begun, Shifted, Filled, Settled, Spread, Sought, Given};
-use paths::FILLER;
+ghost use mathlib.Core.Bool.{true};
+ghost use Prim.Native.Nat.{_+_, _-_, _*_, _^_, _≤_};
+ghost use lib.Count.{ones};
+ghost use lib.Dec.{leb, ltb};
+ghost use Rattle.scan.specs.Scan.{pick};
+ghost use Rattle.answers.specs.Told.{against};
+ghost use Rattle.answers.specs.Order.{first};
+ghost use Rattle.cube_math.specs.Masks as masks;
+ghost use Rattle.cube.specs.Cube.{cube};
+ghost use Rattle.requests.specs.Planned.{Planned};
+ghost use Rattle.cube_plan.specs.Says.{earlyFaults, planAgainst, throughAgainst, PlannedThrough};
+ghost use Rattle.cube_plan.specs.Laying.{Asked, Laid};
+use answers::Checked;
+use answers::Refusal;
+use cube::Size;
 
-// Paths from s to the targets of the rows m, in the dimensions `free`, through doors that are not shut.
-pub fn plan(free: u64, s: u64, shut: u64, m: u64, w: usize, grid: &mut [u64])
-    requires { ⌜ Asked free s shut m w (now grid) ⌝ }
-    ensures { λ _. ⌜ Planned free s shut m w (now (grid .entry)) (now (grid .exit)) ⌝ }
+// What stands against a request whatever its doors and the slices lent: 1 to 7.
+fn request(size: Size, source: u64, targets: &[u64]) -> Checked
+    ensures { λ r. ⌜ against r ≡ first (earlyFaults (size .0) source (now (targets .entry))) ⌝ }
 {
-    let r = moves::sort(free, s, shut, m, w, grid);
-    let left = r.left;
-    let more = r.more;
-    if left == 0 {
-        return;
+    if size.known() {
+        return requests::request(bits::power(size.0 as u32), size.0, source, targets);
     }
-    let x = bits::lowest(left);
-    let others = bits::flip(left, x);
-    if others == 0 {
-        moves::single(free, s, more, x as usize, w, grid);
-        return;
-    }
-    let c = moves::divide(free, s, more, left, w, grid);
-    plan(c.rest, c.f, c.low, c.far, w, grid);
-    let used = moves::bring(c.b, c.f, more, c.far, c.home, w, grid);
-    let near = grid::less(left, c.far);
-    plan(c.rest, s, c.low | used, near, w, grid);
+    Checked::Refused(Refusal::UnknownSize)
 }
 
-// The first n dimensions, or rows.
-fn full(n: u32) -> u64
+// Whether so many places and counts are too few for k paths.
+fn short(n: u64, k: usize, places: usize, counts: usize) -> bool
+    requires { ⌜ (n ≤ 32) × (k ≤ 32) ⌝ }
+    ensures { λ r. ⌜ r ≡ pick (ltb places (k * (n + 2))) true (ltb counts k) ⌝ }
+{
+    if places < k * (n as usize + 2) {
+        return true;
+    }
+    counts < k
+}
+
+// Whether the cube does not have these doors, or they are fewer than k.
+fn bad_doors(n: u64, doors: u64, k: usize) -> bool
     requires { ⌜ n ≤ 32 ⌝ }
-    ensures { λ r. ⌜ r ≡ 2 ^ n - 1 ⌝ }
+    ensures { λ r. ⌜ r ≡ pick (leb (2 ^ n) doors) true (ltb (ones doors) k) ⌝ }
 {
-    grid::pow(n) - 1
-}
-
-// ---- the rows begun, and turned into paths as they are lent
-
-// Each row holds its target.
-fn begin(targets: &[u64], w: usize, grid: &mut [u64])
-    requires { ⌜ (2 ≤ w) × (length (now targets) * w ≤ length (now grid)) ⌝ }
-    ensures { λ _. ⌜ Begun w (now (targets .entry)) (length (now (targets .entry))) (now (grid .entry)) (now (grid .exit)) ⌝ }
-{
-    let mut j: usize = 0;
-    while j < targets.len() {
-        grid::start(grid, w, j, targets[j]);
-        j += 1;
+    if bits::power(n as u32) <= doors {
+        return true;
     }
+    (u64::count_ones(doors) as usize) < k
 }
 
-// Moves n numbers to the front, from `from` to `to`.
-fn shift(places: &mut [u64], to: usize, from: usize, n: usize)
-    requires { ⌜ (to ≤ from) × (from + n ≤ length (now places)) ⌝ }
-    ensures { λ _. ⌜ Shifted to from n (now (places .entry)) (now (places .exit)) ⌝ }
+// The doors of the cube but these.
+fn others(n: u64, doors: u64) -> u64
+    requires { ⌜ n ≤ 32 ⌝ }
+    ensures { λ r. ⌜ r ≡ masks.less (2 ^ n - 1) doors ⌝ }
 {
-    let mut q: usize = 0;
-    while q < n {
-        places[to + q] = places[from + q];
-        q += 1;
-    }
+    cube_rows::less(bits::power(n as u32) - 1, doors)
 }
 
-// The places from `from` to `to` hold the filler.
-fn fill(places: &mut [u64], from: usize, to: usize)
-    requires { ⌜ (from ≤ to) × (to ≤ length (now places)) ⌝ }
-    ensures { λ _. ⌜ Filled from to (now (places .entry)) (now (places .exit)) ⌝ }
-{
-    let mut i = from;
-    while i < to {
-        places[i] = FILLER;
-        i += 1;
-    }
-}
-
-// The row at the place `at` becomes a path as it is lent: its source, its relays, filler. Returns its hops.
-fn settle(s: u64, w: usize, at: usize, places: &mut [u64]) -> u64
-    requires { ⌜ (getD (now places) at 0 < w) × (at + w ≤ length (now places)) ⌝ }
-    ensures { λ r. ⌜ Settled s w at (now (places .entry)) (now (places .exit)) r ⌝ }
-{
-    let n = places[at];
-    shift(places, at + 1, at + w - n as usize, n as usize);
-    fill(places, at + 1 + n as usize, at + w);
-    places[at] = s;
-    n
-}
-
-// The first k rows become paths, and their hops are counted.
-fn spread(s: u64, w: usize, k: usize, places: &mut [u64], counts: &mut [u64])
-    requires { ⌜ ((j : ℕ) → j < k → getD (now places) (j * w) 0 < w) × (k * w ≤ length (now places)) × (k ≤ length (now counts)) ⌝ }
-    ensures { λ _. ⌜ Spread s w k (now (places .entry)) (now (places .exit)) (now (counts .entry)) (now (counts .exit)) ⌝ }
-{
-    let mut j: usize = 0;
-    while j < k {
-        counts[j] = settle(s, w, j * w, places);
-        j += 1;
-    }
-}
-
-// A fan from s to the targets in the cube of n dimensions, through doors that are not shut: path i from the place i * (n + 2) on, source first, and
-// its hops at i.
-pub fn fan_through(
-    n: u32,
-    s: u64,
+// The fan for a request that is sound, through doors that are not shut; refused where there is no room.
+fn lay(
+    n: u64,
+    source: u64,
     shut: u64,
     targets: &[u64],
     places: &mut [u64],
     counts: &mut [u64],
-)
-    requires { ⌜ Sought n s shut (now targets) (now places) (now counts) ⌝ }
-    ensures { λ _. ⌜ Given n s shut (now (targets .entry)) (now (places .entry)) (now (counts .entry)) (now (places .exit)) (now (counts .exit)) ⌝ }
+) -> Checked
+    requires { ⌜ Asked n source shut (now targets) ⌝ }
+    ensures { λ r. ⌜ Laid n source shut (now (targets .entry)) (now (places .entry)) (now (counts .entry)) r (now (places .exit)) (now (counts .exit)) ⌝ }
 {
-    let k = targets.len();
-    let w = n as usize + 2;
-    begin(targets, w, places);
-    plan(full(n), s, shut, full(k as u32), w, places);
-    spread(s, w, k, places, counts);
+    if short(n, targets.len(), places.len(), counts.len()) {
+        return Checked::Refused(Refusal::NoRoom);
+    }
+    cube_split::fan_through(n as u32, source, shut, targets, places, counts);
+    Checked::Fine
+}
+
+// A fan in a cube from the source to the targets, in their order. In the cube of n dimensions path i stands from the place i * (n + 2) on, source
+// first and 2^64 - 1 in the places after its end; its hops stand in the counts at i. In `Size(2)`, from 0 to 3 and 1, it is 0, 2, 3 and 0, 1: the
+// places then hold 0 2 3 F 0 1 F F, where F is 2^64 - 1, and the counts 2 1.
+pub fn plan(
+    size: Size,
+    source: u64,
+    targets: &[u64],
+    places: &mut [u64],
+    counts: &mut [u64],
+) -> Checked
+    ensures { λ r. ⌜ Planned (planAgainst (size .0) source (now (targets .entry)) (now (places .entry)) (now (counts .entry))) (cube (size .0)) source (now (targets .entry)) (now (places .entry)) (now (counts .entry)) r (now (places .exit)) (now (counts .exit)) ⌝ }
+{
+    let checked = request(size, source, targets);
+    if let Checked::Refused(why) = checked {
+        return Checked::Refused(why);
+    }
+    lay(size.0, source, 0, targets, places, counts)
+}
+
+// The same through doors: bit i of `doors` says that a path may leave the source by its link i. No path meets a neighbour of the source behind a
+// shut door but as its own end. There must be as many doors as targets: through the doors 2 (link 1 alone) the path from 0 to 1 in `Size(2)` is
+// 0, 2, 3, 1.
+pub fn plan_through(
+    size: Size,
+    source: u64,
+    doors: u64,
+    targets: &[u64],
+    places: &mut [u64],
+    counts: &mut [u64],
+) -> Checked
+    ensures { λ r. ⌜ PlannedThrough (throughAgainst (size .0) source doors (now (targets .entry)) (now (places .entry)) (now (counts .entry))) (size .0) source doors (now (targets .entry)) (now (places .entry)) (now (counts .entry)) r (now (places .exit)) (now (counts .exit)) ⌝ }
+{
+    let checked = request(size, source, targets);
+    if let Checked::Refused(why) = checked {
+        return Checked::Refused(why);
+    }
+    if bad_doors(size.0, doors, targets.len()) {
+        return Checked::Refused(Refusal::BadDoors);
+    }
+    let shut = others(size.0, doors);
+    lay(size.0, source, shut, targets, places, counts)
 }

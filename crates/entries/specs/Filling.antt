@@ -8,7 +8,7 @@ use native.Mathlib.Omega.{arith}
 use lib.ListN.{length, drop, set, length-set, length-append}
 use lib.Seq.{drop-cons, set-at}
 use lib.WfN.{Nat·lt-wfRel}
-use Rattle.entries.specs.Promise.{entries}
+use Rattle.entries.specs.Says.{entries}
 use Rattle.entries.specs.declared.Entry.{Entry}
 
 pub entries-length : (f : ℕ → Entry) (k : ℕ) → length (entries f k) ≡ k

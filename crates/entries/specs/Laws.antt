@@ -11,32 +11,32 @@ use lib.ListN.{length, take, drop, getD, length-append, List·getD-append}
 use lib.Seq.{getD-take, length-take-le}
 use borrow.Author.Tests.{le-ltb, ltb-true, ltb-false}
 use Rattle.scan.specs.Scan.{pick, count}
-use Rattle.answers.specs.Order.{refuse}
+use Rattle.answers.specs.Order.{refuse, before}
 use Rattle.answers.specs.declared.Refusal.{Refusal}
 use Rattle.answers.specs.declared.Refusal.the-variants.{NoRoom}
-use Rattle.requests.specs.Sound.{before}
 use Rattle.paths.specs.Mesh.{width}
 use Rattle.paths.specs.Fan.{hops}
 use Rattle.paths.specs.Finding.{Finding, clean, found, finding}
-use Rattle.paths.specs.Whole.{whole}
+use Rattle.paths.specs.Whole.{Failed, whole}
 use Rattle.mesh.specs.Kinds.{Kind, kindOf}
-use Rattle.mesh.specs.Laws.{known-small}
+use Rattle.mesh.specs.Limits.{known-links}
 use Rattle.mesh.specs.Says.{requestAgainst, short}
 use Rattle.mesh.specs.Requests.{Fine, request-room, request-fine, request-passed, neither-wanting, room-enough}
-use Rattle.judge.specs.Verdict.{numberOf, rule, judgeAgainst, verdictTold}
+use Rattle.judge.specs.Says.{numberOf, rule, judgeAgainst, verdictTold}
 use Rattle.judge.specs.Numbers.{Numbered, finding-numbered, found-number, refused-number, rule-clean}
+use Rattle.columns.specs.Says.{ahead, marks}
+use Rattle.columns.specs.Laws.{marks-at, marks-length}
 use Rattle.survivors.specs.Tally.{tallied, rulingOf, verdictOf, tallyTold}
-use Rattle.survivors.specs.Promise.{ahead, marks, few, settled, lacking, Survived}
-use Rattle.survivors.specs.Columns.{marks-at, marks-length}
+use Rattle.survivors.specs.Says.{few, settled, lacking, Survived}
 use Rattle.survivors.specs.Laws.{settled-is, settled-not}
 use Rattle.survivors.specs.declared.Tally.{Tally}
 use Rattle.survivors.specs.declared.Tally.the-variants as tally
-use Rattle.entries.specs.Promise.{entryOf, pathEntry, entries, listedTold, Listed}
-use Rattle.entries.specs.Gathered.{capped, takenOf, entryAt, Gathers}
+use Rattle.entries.specs.Says.{entryOf, pathEntry, entries, listedTold, Listed}
+use Rattle.entries.specs.Gathered.{MOST, capped, takenOf, entryAt, Gathers}
 use Rattle.entries.specs.declared.Entry.{Entry}
 use Rattle.entries.specs.declared.gathered.Gathered.{Gathered}
 
--- ---- room for 32 is room for all
+-- ---- room for the most is room for all
 
 pub few-alike : (k n : ℕ) → few k n n n ≡ ltb n k
 few-alike k n = go (ltb n k)
@@ -45,16 +45,16 @@ few-alike k n = go (ltb n k)
     go true = refl
     go false = refl
 
-few-capped : (k room : ℕ) → k ≤ 32 → few k (capped room) (capped room) (capped room) ≡ ltb room k
+few-capped : (k room : ℕ) → k ≤ MOST → few k (capped room) (capped room) (capped room) ≡ ltb room k
 unfolding capped
-few-capped k room h = few-alike k (pick (ltb room 32) room 32) ∙ go (ltb room 32) refl
+few-capped k room h = few-alike k (pick (ltb room MOST) room MOST) ∙ go (ltb room MOST) refl
   where
-    go : (b : Bool) → ltb room 32 ≡ b → ltb (pick b room 32) k ≡ ltb room k
+    go : (b : Bool) → ltb room MOST ≡ b → ltb (pick b room MOST) k ≡ ltb room k
     go true e = refl
-    go false e = let l = ltb-false room 32 e in simp (le-ltb 32 k h, le-ltb room k (omega arith))
+    go false e = let l = ltb-false room MOST e in simp (le-ltb MOST k h, le-ltb room k (omega arith))
 
--- where 1 to 7 stand against a request, room does not matter; else it has no more than 32 targets
-against-same : (kind n s : ℕ) (targets : List ℕ) (a b : Bool) → (length targets ≤ 32 → a ≡ b) → requestAgainst (kindOf kind) n s targets a ≡ requestAgainst (kindOf kind) n s targets b
+-- where 1 to 7 stand against a request, room does not matter; else it has no more targets than that
+against-same : (kind n s : ℕ) (targets : List ℕ) (a b : Bool) → (length targets ≤ MOST → a ≡ b) → requestAgainst (kindOf kind) n s targets a ≡ requestAgainst (kindOf kind) n s targets b
 against-same kind n s targets a b same =
     request-room (kindOf kind) n s targets a
     ∙ go (requestAgainst (kindOf kind) n s targets false) refl
@@ -63,7 +63,7 @@ against-same kind n s targets a b same =
     go : (o : Option Refusal) → requestAgainst (kindOf kind) n s targets false ≡ o → before o (refuse a NoRoom none) ≡ before o (refuse b NoRoom none)
     go none e =
         let fine = request-fine (kindOf kind) n s targets e in
-        let small = known-small kind n (fine .known) .0 in
+        let small = known-links kind n (fine .known) in
         ap (λ (x : Bool). refuse x NoRoom none) (same (omega (arith, fine .sound .few, small)))
     go (some why) e = refl
 
@@ -93,9 +93,9 @@ mark-whole : (b : Bool) → eqb (pick b 1 0) 1 ≡ b
 mark-whole true = refl
 mark-whole false = refl
 
-module _ (w : ℕ) (targets places counts stopped : List ℕ) (i : ℕ) (below : i < length targets) where
+module _ (w : ℕ) (targets places counts : List ℕ) (fails : Failed) (i : ℕ) (below : i < length targets) where
   abbrev test : ℕ → Bool
-  test = whole w places counts stopped
+  test = whole w places counts fails
 
   ended-at : (ends₀ rest : List ℕ) → getD (ahead (length targets) targets ends₀ ++ rest) i 0 ≡ getD targets i 0
   ended-at ends₀ rest =
@@ -122,20 +122,20 @@ module _ (w : ℕ) (targets places counts stopped : List ℕ) (i : ℕ) (below :
 
 -- ---- what is gathered
 
-pub capped-most : (room : ℕ) {m : ℕ} → m ≡ capped room → m ≤ 32
+pub capped-most : (room : ℕ) {m : ℕ} → m ≡ capped room → m ≤ MOST
 unfolding capped
-capped-most room {m} e = rw e (go (ltb room 32) refl)
+capped-most room {m} e = rw e (go (ltb room MOST) refl)
   where
-    go : (b : Bool) → ltb room 32 ≡ b → pick b room 32 ≤ 32
-    go true l = omega (arith, ltb-true room 32 l)
+    go : (b : Bool) → ltb room MOST ≡ b → pick b room MOST ≤ MOST
+    go true l = omega (arith, ltb-true room MOST l)
     go false l = omega arith
 
--- the columns that are lent are as long as there is room, up to 32
-pub capped-length : (room : ℕ) (zeros : List ℕ) {m : ℕ} → length zeros ≡ 32 → m ≡ capped room → length (take m zeros) ≡ m
+-- the columns that are lent are as long as there is room, up to the most
+pub capped-length : (room : ℕ) (zeros : List ℕ) {m : ℕ} → length zeros ≡ MOST → m ≡ capped room → length (take m zeros) ≡ m
 capped-length room zeros {m} z e = length-take-le m zeros (omega (arith, capped-most room e, z))
 
-module _ (kind n s : ℕ) (targets places counts stopped : List ℕ) (room m : ℕ) (t : Tally) (zeros ends₁ hops₁ wholes₁ : List ℕ) (z : length zeros ≡ 32) (cap : m ≡ capped room)
-    (p : Survived (kindOf kind) n s targets places counts stopped (take m zeros) (take m zeros) (take m zeros) t ends₁ hops₁ wholes₁) where
+module _ (kind n s : ℕ) (targets places counts : List ℕ) (fails : Failed) (room m : ℕ) (t : Tally) (zeros ends₁ hops₁ wholes₁ : List ℕ) (z : length zeros ≡ MOST) (cap : m ≡ capped room)
+    (p : Survived (kindOf kind) n s targets places counts fails (take m zeros) (take m zeros) (take m zeros) t ends₁ hops₁ wholes₁) where
   abbrev K : Kind
   K = kindOf kind
 
@@ -160,8 +160,8 @@ module _ (kind n s : ℕ) (targets places counts stopped : List ℕ) (room m : �
       let long : length (take m zeros) ≡ capped room = capped-length room zeros z cap ∙ cap in
       against-same kind n s targets _ _ (λ h. ap (λ (b : Bool). pick b true cramped) (ap (λ (l : ℕ). few k l l l) long ∙ few-capped k room h))
 
-  told : tallyTold t ≡ listedTold K n s targets places counts stopped room
-  told = p .told ∙ ap (λ (o : Option Refusal). tallied (rule o first) (settled o first (count (whole (width (K .mesh n)) places counts stopped) k) 0)) against
+  told : tallyTold t ≡ listedTold K n s targets places counts fails room
+  told = p .told ∙ ap (λ (o : Option Refusal). tallied (rule o first) (settled o first (count (whole (width (K .mesh n)) places counts fails) k) 0)) against
 
   ruled : verdictTold (verdictOf t) ≡ rule asked first
   ruled = ap rulingOf told
@@ -176,30 +176,30 @@ module _ (kind n s : ℕ) (targets places counts stopped : List ℕ) (room m : �
     roomy : (ltb room k ≡ false) × (cramped ≡ false)
     roomy = neither-wanting (ltb room k) cramped refl (passed .1)
 
-    room-for : (k ≤ 32) × (k ≤ room) × (k ≤ length counts)
+    room-for : (k ≤ MOST) × (k ≤ room) × (k ≤ length counts)
     room-for =
-        (omega (arith, passed .0 .sound .few, known-small kind n (passed .0 .known) .0), ltb-false room k (roomy .0), room-enough (K .mesh n) k (length places) (length counts) (roomy .1) .1)
+        (omega (arith, passed .0 .sound .few, known-links kind n (passed .0 .known)), ltb-false room k (roomy .0), room-enough (K .mesh n) k (length places) (length counts) (roomy .1) .1)
 
     given : {A : Type 0} (a b : A) → settled lent first a b ≡ a
     given a b = settled-is a b (against ∙ none-against) none-found
 
     entry-at : (i : ℕ) → i < k
         → entryOf (getD (ends₁ ++ drop m zeros) i 0) (getD (hops₁ ++ drop m zeros) i 0) (eqb (getD (wholes₁ ++ drop m zeros) i 0) 1)
-        ≡ pathEntry (width (K .mesh n)) targets places counts stopped i
+        ≡ pathEntry (width (K .mesh n)) targets places counts fails i
     entry-at i h =
         let w = width (K .mesh n) in
-        let e = ap (λ (l : List ℕ). getD (l ++ drop m zeros) i 0) (p .ended ∙ given _ _) ∙ ended-at w targets places counts stopped i h (take m zeros) (drop m zeros) in
-        let c = ap (λ (l : List ℕ). getD (l ++ drop m zeros) i 0) (p .hopped ∙ given _ _) ∙ hopped-at w targets places counts stopped i h (room-for .2) (take m zeros) (drop m zeros) in
-        let b = ap (λ (l : List ℕ). eqb (getD (l ++ drop m zeros) i 0) 1) (p .marked ∙ given _ _) ∙ marked-at w targets places counts stopped i h (take m zeros) (drop m zeros) in
+        let e = ap (λ (l : List ℕ). getD (l ++ drop m zeros) i 0) (p .ended ∙ given _ _) ∙ ended-at w targets places counts fails i h (take m zeros) (drop m zeros) in
+        let c = ap (λ (l : List ℕ). getD (l ++ drop m zeros) i 0) (p .hopped ∙ given _ _) ∙ hopped-at w targets places counts fails i h (room-for .2) (take m zeros) (drop m zeros) in
+        let b = ap (λ (l : List ℕ). eqb (getD (l ++ drop m zeros) i 0) 1) (p .marked ∙ given _ _) ∙ marked-at w targets places counts fails i h (take m zeros) (drop m zeros) in
         λ j. entryOf (e j) (c j) (b j)
 
   pub gathered : {r : ℕ} → r ≡ takenOf t k
-      → Gathers K n s targets places counts stopped room (record { tally = t; k = r; ends = ends₁ ++ drop m zeros; hops = hops₁ ++ drop m zeros; wholes = wholes₁ ++ drop m zeros })
+      → Gathers K n s targets places counts fails room (record { tally = t; k = r; ends = ends₁ ++ drop m zeros; hops = hops₁ ++ drop m zeros; wholes = wholes₁ ++ drop m zeros })
   gathered {r} e = record {
     told = told;
     taken = e ∙ taken-settled asked first numbered t k ruled;
     each = λ i h. let l : i < takenOf t k = omega (arith, h, e) in let c = taken-clean asked first numbered t k i ruled l in entry-at (c .0) (c .1) i (omega (arith, l, taken-most t k k (λ c e. omega arith)));
-    small = omega (arith, e, taken-most t k 32 (λ c w. let r = whole-clean c w in room-for (r .0) (r .1) .0));
+    small = omega (arith, e, taken-most t k MOST (λ c w. let r = whole-clean c w in room-for (r .0) (r .1) .0));
     fits = omega (arith, e, taken-most t k room (λ c w. let r = whole-clean c w in room-for (r .0) (r .1) .1));
   }
     where
@@ -221,12 +221,12 @@ listed-by none clean f g k taken out e h = ap (λ (l : List Entry). l ++ drop ta
 listed-by none (found x i p) f g k taken out e h = ap (λ (j : ℕ). entries f j ++ drop j out) e
 listed-by (some why) a f g k taken out e h = ap (λ (j : ℕ). entries f j ++ drop j out) e
 
-pub listed : (K : Kind) (n s : ℕ) (targets places counts stopped : List ℕ) (out : List Entry) {g : Gathered} {r : Tally} {out₁ : List Entry}
-    → Gathers K n s targets places counts stopped (length out) g → r ≡ g .tally → out₁ ≡ entries (entryAt g) (g .k) ++ drop (g .k) out
-    → Listed K n s targets places counts stopped out r out₁
-listed K n s targets places counts stopped out {g} {r} {out₁} p e f = record {
+pub listed : (K : Kind) (n s : ℕ) (targets places counts : List ℕ) (fails : Failed) (out : List Entry) {g : Gathered} {r : Tally} {out₁ : List Entry}
+    → Gathers K n s targets places counts fails (length out) g → r ≡ g .tally → out₁ ≡ entries (entryAt g) (g .k) ++ drop (g .k) out
+    → Listed K n s targets places counts fails out r out₁
+listed K n s targets places counts fails out {g} {r} {out₁} p e f = record {
   told = ap tallyTold e ∙ p .told;
   listed = f
       ∙ listed-by (judgeAgainst K n s targets places counts (ltb (length out) (length targets))) (finding (K .mesh n) s targets places counts)
-      (entryAt g) (pathEntry (width (K .mesh n)) targets places counts stopped) (length targets) (g .k) out (p .taken) (p .each);
+      (entryAt g) (pathEntry (width (K .mesh n)) targets places counts fails) (length targets) (g .k) out (p .taken) (p .each);
 }

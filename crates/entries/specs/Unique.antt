@@ -1,7 +1,7 @@
 -- The promise leaves one tally and one content of the list (`listed-unique`); the tally is the one that columns as long as the list give
 -- (`listed-agrees`), and after a count the entry of each path is what the promise says of it (`listed-at`). Assumes nothing.
 use Prim.Native.Nat.{ℕ, zero, suc, _<_}
-use mathlib.Core.Path.{_≡_, refl, sym, ap, _∙_}
+use mathlib.Core.Path.{_≡_, sym, ap, _∙_}
 use mathlib.Core.Bool.{Bool}
 use mathlib.Core.List.{List, [], _∷_, _++_}
 use native.Mathlib.Omega.{arith}
@@ -12,30 +12,30 @@ use lib.Seq.{getD-at}
 use Rattle.scan.specs.Scan.{count}
 use Rattle.paths.specs.Mesh.{width}
 use Rattle.paths.specs.Finding.{finding}
-use Rattle.paths.specs.Whole.{whole}
+use Rattle.paths.specs.Whole.{Failed, whole}
 use Rattle.mesh.specs.Kinds.{Kind}
-use Rattle.judge.specs.Verdict.{verdictTold, judgeAgainst, judgeTold}
+use Rattle.judge.specs.Says.{verdictTold, judgeAgainst, judgeTold}
 use Rattle.judge.specs.Numbers.{finding-numbered, rule-clean}
 use Rattle.survivors.specs.Tally.{tallied, rulingOf, verdictOf}
-use Rattle.survivors.specs.Promise.{few, settled, Survived}
+use Rattle.survivors.specs.Says.{few, settled, Survived}
 use Rattle.survivors.specs.Laws.{settled-is}
 use Rattle.survivors.specs.Unique.{tally-unique}
 use Rattle.survivors.specs.declared.Tally.{Tally}
 use Rattle.survivors.specs.declared.Tally.the-variants as tally
-use Rattle.entries.specs.Promise.{pathEntry, entries, Listed}
+use Rattle.entries.specs.Says.{pathEntry, entries, Listed}
 use Rattle.entries.specs.Filling.{entries-length}
 use Rattle.entries.specs.Laws.{few-alike}
 use Rattle.entries.specs.declared.Entry.{Entry}
 
-pub listed-unique : (K : Kind) (n s : ℕ) (targets places counts stopped : List ℕ) (out : List Entry) (a b : Tally) (out₁ out₂ : List Entry)
-    → Listed K n s targets places counts stopped out a out₁ → Listed K n s targets places counts stopped out b out₂ → (a ≡ b) × (out₁ ≡ out₂)
-listed-unique K n s targets places counts stopped out a b out₁ out₂ p q = (tally-unique a b (p .told ∙ sym (q .told)), p .listed ∙ sym (q .listed))
+pub listed-unique : (K : Kind) (n s : ℕ) (targets places counts : List ℕ) (fails : Failed) (out : List Entry) (a b : Tally) (out₁ out₂ : List Entry)
+    → Listed K n s targets places counts fails out a out₁ → Listed K n s targets places counts fails out b out₂ → (a ≡ b) × (out₁ ≡ out₂)
+listed-unique K n s targets places counts fails out a b out₁ out₂ p q = (tally-unique a b (p .told ∙ sym (q .told)), p .listed ∙ sym (q .listed))
 
 -- the columns are each as long as the list
-pub listed-agrees : (K : Kind) (n s : ℕ) (targets places counts stopped ends hops wholes : List ℕ) (out : List Entry) (a b : Tally) (out₁ : List Entry) (ends₁ hops₁ wholes₁ : List ℕ)
+pub listed-agrees : (K : Kind) (n s : ℕ) (targets places counts : List ℕ) (fails : Failed) (ends hops wholes : List ℕ) (out : List Entry) (a b : Tally) (out₁ : List Entry) (ends₁ hops₁ wholes₁ : List ℕ)
     → length ends ≡ length out → length hops ≡ length out → length wholes ≡ length out
-    → Listed K n s targets places counts stopped out a out₁ → Survived K n s targets places counts stopped ends hops wholes b ends₁ hops₁ wholes₁ → a ≡ b
-listed-agrees K n s targets places counts stopped ends hops wholes out a b out₁ ends₁ hops₁ wholes₁ e h w p q =
+    → Listed K n s targets places counts fails out a out₁ → Survived K n s targets places counts fails ends hops wholes b ends₁ hops₁ wholes₁ → a ≡ b
+listed-agrees K n s targets places counts fails ends hops wholes out a b out₁ ends₁ hops₁ wholes₁ e h w p q =
     let k = length targets in
     let alike : few k (length ends) (length hops) (length wholes) ≡ ltb (length out) k = rw e (rw h (rw w (few-alike k (length out)))) in
     tally-unique a b
@@ -45,7 +45,7 @@ listed-agrees K n s targets places counts stopped ends hops wholes out a b out�
     ∙ ap
     (λ (x : Bool).
     tallied (judgeTold K n s targets places counts x)
-    (settled (judgeAgainst K n s targets places counts x) (finding (K .mesh n) s targets places counts) (count (whole (width (K .mesh n)) places counts stopped) k) 0))
+    (settled (judgeAgainst K n s targets places counts x) (finding (K .mesh n) s targets places counts) (count (whole (width (K .mesh n)) places counts fails) k) 0))
     alike))
 
 entries-at : (f : ℕ → Entry) (k i : ℕ) (d : Entry) → i < k → getD (entries f k) i d ≡ f i
@@ -58,11 +58,11 @@ entries-at f (suc k) i d h = go (ℕ-discrete i k) (λ l. entries-at f k i d l)
     go (no ne) rest = List·getD-append (entries f k) (f k ∷ []) d i (omega (arith, entries-length f k)) ∙ rest (omega arith)
 
 -- entry i of a fan that was counted
-pub listed-at : (K : Kind) (n s : ℕ) (targets places counts stopped : List ℕ) (out out₁ : List Entry) (r : Tally) (c i : ℕ) (d : Entry)
-    → Listed K n s targets places counts stopped out r out₁ → r ≡ tally.Whole c → i < length targets
-    → getD out₁ i d ≡ pathEntry (width (K .mesh n)) targets places counts stopped i
-listed-at K n s targets places counts stopped out out₁ r c i d p e h =
-    let f = pathEntry (width (K .mesh n)) targets places counts stopped in
+pub listed-at : (K : Kind) (n s : ℕ) (targets places counts : List ℕ) (fails : Failed) (out out₁ : List Entry) (r : Tally) (c i : ℕ) (d : Entry)
+    → Listed K n s targets places counts fails out r out₁ → r ≡ tally.Whole c → i < length targets
+    → getD out₁ i d ≡ pathEntry (width (K .mesh n)) targets places counts fails i
+listed-at K n s targets places counts fails out out₁ r c i d p e h =
+    let f = pathEntry (width (K .mesh n)) targets places counts fails in
     let k = length targets in
     let ruled = sym (ap (λ (t : Tally). verdictTold (verdictOf t)) e) ∙ ap rulingOf (p .told) in
     let clean =

@@ -1,22 +1,32 @@
 -- What the calls of the region host tell and leave. A refusal is told as number * 256 + place (`codeOf`), and 0 where nothing stands against the call.
 use Prim.Native.Nat.{ℕ, _+_, _*_, _/_, _%_, _≤_}
 use mathlib.Core.Path.{_≡_}
-use mathlib.Core.Bool.{Bool, false, not}
+use mathlib.Core.Bool.{not}
 use mathlib.Core.List.{List, _++_}
 use mathlib.Core.Option.{Option, none, some}
 use lib.Dec.{eqb, ltb}
 use lib.ListN.{length, drop}
 use Rattle.octets.specs.Big.{big}
-use Rattle.answers.specs.Order.{Faults, first, refuse, requestFaults}
+use Rattle.answers.specs.Order.{Fault, first, refuse, readFaults}
 use Rattle.answers.specs.Told.{number, place, leaves}
 use Rattle.answers.specs.declared.Refusal.{Refusal}
 use Rattle.answers.specs.declared.Refusal.the-variants.{NoRoom}
 use Rattle.paths.specs.Mesh.{Mesh, width}
 use Rattle.paths.specs.Fan.{Fan}
 use Rattle.mesh.specs.Kinds.{Kind, kindOf, meshOf}
-use Rattle.mesh.specs.Says.{pairAgainst}
-use Rattle.sheet.specs.Format.{HEAD, relaysAt}
-use Rattle.sheet.specs.Total.{bytes}
+use Rattle.mesh.specs.Says.{pairAgainst, requestFaultsIn}
+use Rattle.sheet.specs.Format.{HEAD, relaysAt, kindAt, sizeAt, sourceAt, countAt}
+use Rattle.sheet_write.specs.Says.{bytes, writeAgainst, sheet, Wrote}
+use Rattle.sheet.specs.Says.{tellWritten, tellRead}
+use Rattle.sheet.specs.declared.Written.{Written}
+use Rattle.sheet.specs.declared.Reading.{Reading}
+use Rattle.sheet_read.specs.Says.{readsAgainst, Read}
+use Rattle.paths.specs.Whole.{Failed}
+use Rattle.survivors.specs.Says.{survivorsTold, Survived}
+use Rattle.survivors.specs.declared.Tally.{Tally}
+use Rattle.shapes.specs.Shapes.{tallyIn, writtenIn, readingIn}
+use Rattle.shapes.specs.declared.GustAnswer.{GustAnswer}
+use Rattle.shapes.specs.declared.GustReading.{GustReading}
 
 -- number * 256 + place
 abbrev pub codeOf : Option Refusal → ℕ
@@ -57,35 +67,20 @@ targetsIn l = relaysAt l 0 (length l / 8)
 abbrev pub most : (m : Mesh) (k : ℕ) → ℕ
 most m k = HEAD + k * (2 + 8 * m .longest)
 
--- faults, and besides that bytes cannot be read
-abbrev pub unreadableToo : Bool → Faults → Faults
-unreadableToo b f = record {
-  unreadable = b;
-  unknown = f .unknown;
-  undistanced = f .undistanced;
-  source = f .source;
-  empty = f .empty;
-  many = f .many;
-  out = f .out;
-  same = f .same;
-  again = f .again;
-  doors = f .doors;
-  room = f .room;
-}
-
 module _ (kind size s : ℕ) where
   -- 1 to 7, and 8 where the largest sheet of so many paths would not fit
-  abbrev pub listFaults : (targets out : List ℕ) → Faults
-  listFaults targets out =
-      requestFaults (not (kindOf kind .known size)) (meshOf kind size .relays) (meshOf kind size .links) s targets false
-      (ltb (length out) (most (meshOf kind size) (length targets)))
+  abbrev pub listFaults : (targets out : List ℕ) → List Fault
+  listFaults targets out = requestFaultsIn (kindOf kind) size s targets (ltb (length out) (most (meshOf kind size) (length targets)))
+
+  -- 10 before these: bytes that are no multiple of 8
+  abbrev pub planFaults : (bytes out : List ℕ) → List Fault
+  planFaults bytes out = readFaults (not (eqb (length bytes % 8) 0)) ++ listFaults (targetsIn bytes) out
 
   abbrev pub listAgainst : (targets out : List ℕ) → Option Refusal
   listAgainst targets out = first (listFaults targets out)
 
-  -- 10 before these: bytes that are no multiple of 8
   abbrev pub planAgainst : (bytes out : List ℕ) → Option Refusal
-  planAgainst bytes out = first (unreadableToo (not (eqb (length bytes % 8) 0)) (listFaults (targetsIn bytes) out))
+  planAgainst bytes out = first (planFaults bytes out)
 
   -- the sheet of a fan stands at the front of what was there
   pub record Answered (targets out out₁ : List ℕ) : Type 0 where
@@ -101,3 +96,20 @@ pub record Planned (o : Option Refusal) (kind size s : ℕ) (targets out : List 
   pub told : r ≡ codeOf o
   pub answered : o ≡ none → Answered kind size s targets out out₁
   pub refused : (why : Refusal) → o ≡ some why → out₁ ≡ out
+
+-- ---- the calls that fill slices: what is told, and the slices as the library's routine leaves them
+
+pub record SurvivedIn (K : Kind) (n s : ℕ) (targets places counts : List ℕ) (fails : Failed) (ends hops wholes : List ℕ) (r : GustAnswer) (ends₁ hops₁ wholes₁ : List ℕ) : Type 0 where
+  pub told : r ≡ tallyIn (survivorsTold K n s targets places counts fails ends hops wholes)
+  pub tally : Tally
+  pub left : Survived K n s targets places counts fails ends hops wholes tally ends₁ hops₁ wholes₁
+
+pub record WroteIn (kind size s : ℕ) (targets places counts out : List ℕ) (r : GustAnswer) (out₁ : List ℕ) : Type 0 where
+  pub told : r ≡ writtenIn (tellWritten (writeAgainst kind size s targets places counts out) (length (sheet kind size s targets places counts out)))
+  pub written : Written
+  pub left : Wrote kind size s targets places counts out written out₁
+
+pub record ReadIn (l places counts targets : List ℕ) (r : GustReading) (places₁ counts₁ targets₁ : List ℕ) : Type 0 where
+  pub told : r ≡ readingIn (tellRead (readsAgainst l places counts targets) (kindAt l) (sizeAt l) (sourceAt l) (countAt l))
+  pub reading : Reading
+  pub left : Read l places counts targets reading places₁ counts₁ targets₁

@@ -12,17 +12,17 @@ use lib.Seq.{sets}
 use borrow.Author.Tests.{lt-ltb, le-ltb}
 use Rattle.scan.specs.Scan.{pick, at, nowhere}
 use Rattle.octets.specs.Big.{big, big-length}
-use Rattle.answers.specs.Order.{first, refuse, refuse-at, pairFaults}
+use Rattle.answers.specs.Order.{first, refuse, refuse-at, before, sizeFaults, pairFaults}
 use Rattle.answers.specs.Told.{place, tell, leaves, placeOf, valueOf, answerTold}
 use Rattle.answers.specs.Laws.{answer-unique}
-use Rattle.answers.specs.Pairs.{orElse, room-last}
+use Rattle.answers.specs.Pairs.{room-last}
 use Rattle.answers.specs.declared.Refusal.{Refusal}
-use Rattle.answers.specs.declared.Refusal.the-variants.{UnknownSize, NoDistance, SourceOut, TargetOut, NoRoom}
+use Rattle.answers.specs.declared.Refusal.the-variants.{UnknownSize, SourceOut, TargetOut, NoRoom}
 use Rattle.answers.specs.declared.Answer.{Answer}
 use Rattle.answers.specs.declared.Answer.the-variants as answer
 use Rattle.mesh.specs.Kinds.{Kind}
-use Rattle.mesh.specs.Says.{pairAgainst, nextTold}
-use Rattle.sheet.specs.Bodied.{at-front}
+use Rattle.mesh.specs.Says.{sizeFaultsIn, pairAgainst, nextTold}
+use Rattle.sheet.specs.Pieces.{at-front}
 use Rattle.host.specs.Says.{codeOf, putAgainst, front, Put, nextAgainst, Stepped}
 
 -- ---- what stands against an answer
@@ -67,28 +67,25 @@ module _ (relay : ℕ) (out : List ℕ) where
 -- ---- the next hop
 
 -- every refusal of a pair tells place 0
-pair-place : (u d : Bool) (relays s t : ℕ) (room : Bool) (v : ℕ) → placeOf (tell (first (pairFaults u d relays s t room)) 0 v) ≡ 0
-pair-place u d relays s t room v = go u d (leb relays s) (leb relays t) room
+pair-place : (u : Bool) (relays s t : ℕ) (v : ℕ) → placeOf (tell (first (sizeFaults u ++ pairFaults relays s t)) 0 v) ≡ 0
+pair-place u relays s t v = go u (leb relays s) (leb relays t)
   where
-    go : (u d s t room : Bool)
-        → placeOf (tell (refuse u UnknownSize (refuse d NoDistance (refuse s SourceOut (refuse-at (pick t (at 0) nowhere) TargetOut (refuse room NoRoom none))))) 0 v) ≡ 0
-    go true d s t room = refl
-    go false true s t room = refl
-    go false false true t room = refl
-    go false false false true room = refl
-    go false false false false true = refl
-    go false false false false false = refl
+    go : (u s t : Bool) → placeOf (tell (refuse u UnknownSize (refuse s SourceOut (refuse-at (pick t (at 0) nowhere) TargetOut none))) 0 v) ≡ 0
+    go true s t = refl
+    go false true t = refl
+    go false false true = refl
+    go false false false = refl
 
 module _ (K : Kind) (n s t : ℕ) {a b : Answer} (f : a ≡ b) (e : answerTold a ≡ nextTold K n s t) where
   pub next-place : {why : Refusal} → b ≡ answer.Refused why → place why < 256
   next-place {why} g =
-      let zero : place why ≡ 0 = ap (λ (x : Answer). placeOf (answerTold x)) (sym (f ∙ g)) ∙ ap placeOf e ∙ pair-place (not (K .known n)) false (K .mesh n .relays) s t false (K .next n s t) in
+      let zero : place why ≡ 0 = ap (λ (x : Answer). placeOf (answerTold x)) (sym (f ∙ g)) ∙ ap placeOf e ∙ pair-place (not (K .known n)) (K .mesh n .relays) s t (K .next n s t) in
       omega arith
 
 module _ (K : Kind) (n s t : ℕ) (out : List ℕ) where
   -- want of room comes last
-  next-all : {o : Option Refusal} → o ≡ pairAgainst K n s t false → orElse o (putAgainst out) ≡ nextAgainst K n s t out
-  next-all e = ap (λ (o : Option Refusal). orElse o (putAgainst out)) e ∙ sym (room-last (not (K .known n)) false (K .mesh n .relays) s t (ltb (length out) 8))
+  next-all : {o : Option Refusal} → o ≡ pairAgainst K n s t false → before o (putAgainst out) ≡ nextAgainst K n s t out
+  next-all e = ap (λ (o : Option Refusal). before o (putAgainst out)) e ∙ sym (room-last (sizeFaultsIn K n ++ pairFaults (K .mesh n .relays) s t) (ltb (length out) 8))
 
   stepped : {o : Option Refusal} {r : ℕ} {out₁ : List ℕ} → o ≡ nextAgainst K n s t out → r ≡ codeOf o → out₁ ≡ leaves o out (front (K .next n s t) out) → Stepped K n s t out r out₁
   stepped e p q = record { told = p ∙ ap codeOf e; held = q ∙ ap (λ (o : Option Refusal). leaves o out (front (K .next n s t) out)) e }

@@ -2,27 +2,21 @@
 -- Assumes nothing.
 use Prim.Native.Nat.{ℕ, _%_}
 use mathlib.Core.Path.{_≡_, refl, sym, ap, _∙_}
-use mathlib.Core.Bool.{Bool, true, false, not}
+use mathlib.Core.Bool.{false, not}
 use mathlib.Core.List.{List}
-use mathlib.Core.Option.{Option, none}
+use mathlib.Core.Option.{none}
 use lib.Dec.{eqb, ltb}
 use lib.ListN.{length, take, drop}
 use lib.Seq.{take-at}
-use Rattle.answers.specs.Order.{refuse}
-use Rattle.answers.specs.declared.Refusal.{Refusal}
+use Rattle.answers.specs.Order.{refuse-none}
 use Rattle.answers.specs.declared.Refusal.the-variants.{Unreadable}
-use Rattle.requests.specs.Planned.{not-both}
 use Rattle.mesh.specs.Kinds.{kindOf, meshOf}
 use Rattle.mesh.specs.Says.{requestAgainst}
 use Rattle.mesh.specs.Requests.{request-passed}
-use Rattle.sheet.specs.Total.{bytes}
 use Rattle.sheet.specs.Judging.{judged-told}
-use Rattle.sheet.specs.TripsRead.{ReadsBack, write-read}
+use Rattle.sheet_write.specs.Says.{bytes}
+use Rattle.sheet_trips.specs.TripsRead.{ReadsBack, write-read}
 use Rattle.host.specs.Says.{most, targetsIn, listAgainst, planAgainst, Answered, Planned}
-
-not-refused : (b : Bool) (why : Refusal) (rest : Option Refusal) → refuse b why rest ≡ none → rest ≡ none
-not-refused true why rest e = not-both refl e
-not-refused false why rest e = e
 
 module _ (kind size s : ℕ) (l out out₁ : List ℕ) {r : ℕ} (p : Planned (planAgainst kind size s l out) kind size s (targetsIn l) out r out₁) (o : planAgainst kind size s l out ≡ none) where
   -- the fan, and its sheet
@@ -36,7 +30,7 @@ module _ (kind size s : ℕ) (l out out₁ : List ℕ) {r : ℕ} (p : Planned (p
   asked-fine : requestAgainst (kindOf kind) size s (targetsIn l) false ≡ none
   asked-fine =
       let room = ltb (length out) (most (meshOf kind size) (length (targetsIn l))) in
-      let listed = not-refused (not (eqb (length l % 8) 0)) Unreadable (listAgainst kind size s (targetsIn l) out) o in
+      let listed = refuse-none (not (eqb (length l % 8) 0)) Unreadable (listAgainst kind size s (targetsIn l) out) o .1 in
       sym (ap (requestAgainst (kindOf kind) size s (targetsIn l)) (request-passed (kindOf kind) size s (targetsIn l) room listed .1)) ∙ listed
 
   -- the first bytes are the sheet, and it reads back

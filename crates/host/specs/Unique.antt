@@ -5,11 +5,11 @@ use mathlib.Core.Path.{_≡_, sym, _∙_}
 use mathlib.Core.List.{List}
 use mathlib.Core.Option.{Option, some}
 use Rattle.answers.specs.declared.Refusal.{Refusal}
+use Rattle.paths.specs.Whole.{Failed}
 use Rattle.mesh.specs.Kinds.{Kind}
-use Rattle.host.specs.Says.{Stepped, Planned}
-use Rattle.host.specs.Shapes.{SurvivedIn, WroteIn, ReadIn}
-use Rattle.host.specs.declared.shapes.GustAnswer.{GustAnswer}
-use Rattle.host.specs.declared.shapes.GustReading.{GustReading}
+use Rattle.host.specs.Says.{Stepped, Planned, SurvivedIn, WroteIn, ReadIn}
+use Rattle.shapes.specs.declared.GustAnswer.{GustAnswer}
+use Rattle.shapes.specs.declared.GustReading.{GustReading}
 
 pub stepped-unique : {K : Kind} {n s t : ℕ} {out : List ℕ} {r q : ℕ} {out₁ out₂ : List ℕ} → Stepped K n s t out r out₁ → Stepped K n s t out q out₂ → (r ≡ q) × (out₁ ≡ out₂)
 stepped-unique a b = (a .told ∙ sym (b .told), a .held ∙ sym (b .held))
@@ -21,10 +21,10 @@ module _ {o : Option Refusal} {kind size s : ℕ} {targets out : List ℕ} {r q 
   pub refused-unique : (why : Refusal) → o ≡ some why → out₁ ≡ out₂
   refused-unique why e = a .refused why e ∙ sym (b .refused why e)
 
-pub survived-in-unique : (K : Kind) (n s : ℕ) (targets places counts stopped ends hops wholes : List ℕ) (r q : GustAnswer) (ends₁ hops₁ wholes₁ ends₂ hops₂ wholes₂ : List ℕ)
-    → SurvivedIn K n s targets places counts stopped ends hops wholes r ends₁ hops₁ wholes₁ → SurvivedIn K n s targets places counts stopped ends hops wholes q ends₂ hops₂ wholes₂
+pub survived-in-unique : (K : Kind) (n s : ℕ) (targets places counts : List ℕ) (fails : Failed) (ends hops wholes : List ℕ) (r q : GustAnswer) (ends₁ hops₁ wholes₁ ends₂ hops₂ wholes₂ : List ℕ)
+    → SurvivedIn K n s targets places counts fails ends hops wholes r ends₁ hops₁ wholes₁ → SurvivedIn K n s targets places counts fails ends hops wholes q ends₂ hops₂ wholes₂
     → (r ≡ q) × (ends₁ ≡ ends₂) × (hops₁ ≡ hops₂) × (wholes₁ ≡ wholes₂)
-survived-in-unique K n s targets places counts stopped ends hops wholes r q ends₁ hops₁ wholes₁ ends₂ hops₂ wholes₂ a b = (
+survived-in-unique K n s targets places counts fails ends hops wholes r q ends₁ hops₁ wholes₁ ends₂ hops₂ wholes₂ a b = (
   a .told ∙ sym (b .told),
   a .left .ended ∙ sym (b .left .ended),
   a .left .hopped ∙ sym (b .left .hopped),

@@ -10,7 +10,7 @@ use Rattle.paths.specs.Fan.{Fan}
 use Rattle.paths.specs.Finding.{finding}
 use Rattle.paths.specs.Judged.{clean-fan, fan-clean}
 use Rattle.mesh.specs.Kinds.{Kind}
-use Rattle.judge.specs.Verdict.{rule, verdictTold, judgeAgainst, judgeTold}
+use Rattle.judge.specs.Says.{rule, verdictTold, judgeAgainst, judgeTold}
 use Rattle.judge.specs.Unique.{verdict-unique}
 use Rattle.judge.specs.Numbers.{finding-numbered, rule-clean}
 use Rattle.judge.specs.declared.Verdict.{Verdict}

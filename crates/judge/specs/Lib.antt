@@ -1,9 +1,9 @@
 -- The judge's verdicts, the laws of its search, and what a verdict means.
-pub mod Verdict
+pub mod Says
 pub mod Needs
-pub mod Rows
 pub mod Looks
 pub mod Search
 pub mod Unique
 pub mod Numbers
 pub mod Judged
+pub mod Alike

@@ -5,10 +5,10 @@ use mathlib.Core.Bool.{Bool, true, false, not}
 use mathlib.Core.Logic.{_≢_}
 use mathlib.Core.List.{List}
 use native.Mathlib.Omega.{arith}
-use lib.Dec.{eqb, ltb}
+use lib.Dec.{eqb}
 use borrow.Author.Tests.{lt-ltb, le-ltb, eq-eqb, ne-eqb}
 use Rattle.scan.specs.Scan.{Spot, nowhere, at, seek}
-use Rattle.paths.specs.Mesh.{Mesh, width}
+use Rattle.paths.specs.Rules.{Rules, span}
 use Rattle.paths.specs.Fan.{relay, hops}
 use Rattle.paths.specs.Finding.{Finding, clean, found, report, report-at, unlinked, seen, unfilled, unlinkedAt, seenAt, unfilledAt, findingOf}
 
@@ -30,14 +30,14 @@ passed-by f rest e = sym (ap (λ (sp : Spot). report-at sp f rest) e)
 
 -- a look at path i, which is to lead from s to t
 pub record Look : Type 0 where
-  pub m : Mesh
+  pub r : Rules
   pub w : ℕ
   pub s : ℕ
   pub t : ℕ
   pub places : List ℕ
   pub counts : List ℕ
   pub i : ℕ
-  pub wide : w ≡ width m
+  pub wide : w ≡ span r
 
 module _ (l : Look) where
   abbrev h : ℕ
@@ -45,29 +45,29 @@ module _ (l : Look) where
 
   -- what stands at place p, at the width that the definition has and at the one that code has
   abbrev there : ℕ → ℕ
-  there p = relay (width (l .m)) (l .places) (l .i) p
+  there p = relay (span (l .r)) (l .places) (l .i) p
 
   abbrev here : ℕ → ℕ
   here p = relay (l .w) (l .places) (l .i) p
 
   -- what is left to look for after each test: 25, 24 on, 23 on, 22 on, 21 on
   abbrev pub from25 : Finding
-  from25 = report-at (unfilledAt (l .m) (l .places) (l .counts) (l .i)) (found 25 (l .i)) clean
+  from25 = report-at (unfilledAt (l .r) (l .places) (l .counts) (l .i)) (found 25 (l .i)) clean
 
   abbrev pub from24 : Finding
-  from24 = report-at (seenAt (width (l .m)) (l .places) (l .counts) (l .i)) (found 24 (l .i)) from25
+  from24 = report-at (seenAt (l .r) (l .places) (l .counts) (l .i)) (found 24 (l .i)) from25
 
   abbrev pub from23 : Finding
   from23 = report (not (eqb (there h) (l .t))) (found 23 (l .i) h) from24
 
   abbrev pub from22 : Finding
-  from22 = report-at (unlinkedAt (l .m) (l .places) (l .counts) (l .i)) (found 22 (l .i)) from23
+  from22 = report-at (unlinkedAt (l .r) (l .places) (l .counts) (l .i)) (found 22 (l .i)) from23
 
   abbrev pub from21 : Finding
   from21 = report (not (eqb (there 0) (l .s))) (found 21 (l .i) 0) from22
 
   abbrev pub from20 : Finding
-  from20 = findingOf (l .m) (l .s) (l .t) (l .places) (l .counts) (l .i) clean
+  from20 = findingOf (l .r) (l .s) (l .t) (l .places) (l .counts) (l .i) clean
 
   -- code's tests
   same-place : (p : ℕ) → here p ≡ there p
@@ -81,35 +81,35 @@ module _ (l : Look) where
 
   -- code's searches
   abbrev pub linkSpot : Spot
-  linkSpot = seek (unlinked (l .m) (l .places) (l .i)) 1 h
+  linkSpot = seek (unlinked (l .r) (l .places) (l .i)) 1 h
 
   abbrev pub seenSpot : Spot
-  seenSpot = seek (seen (l .w) (l .places) (l .counts) (l .i)) 0 (h + 1)
+  seenSpot = seek (seen (l .r) (l .places) (l .counts) (l .i)) 0 (h + 1)
 
   abbrev pub fillSpot : Spot
   fillSpot = seek (unfilled (l .w) (l .places) (l .i)) (h + 1) (l .w - (h + 1))
 
-  links-sought : linkSpot ≡ unlinkedAt (l .m) (l .places) (l .counts) (l .i)
+  links-sought : linkSpot ≡ unlinkedAt (l .r) (l .places) (l .counts) (l .i)
   unfolding unlinkedAt
   links-sought = refl
 
-  seen-sought : seenSpot ≡ seenAt (width (l .m)) (l .places) (l .counts) (l .i)
+  seen-sought : seenSpot ≡ seenAt (l .r) (l .places) (l .counts) (l .i)
   unfolding seenAt
-  seen-sought = ap (λ (v : ℕ). seek (seen v (l .places) (l .counts) (l .i)) 0 (h + 1)) (l .wide)
+  seen-sought = refl
 
-  fill-sought : fillSpot ≡ unfilledAt (l .m) (l .places) (l .counts) (l .i)
+  fill-sought : fillSpot ≡ unfilledAt (l .r) (l .places) (l .counts) (l .i)
   unfolding unfilledAt
   fill-sought =
-      let left : l .w - (h + 1) ≡ l .m .longest - h = omega (arith, l .wide) in
+      let left : l .w - (h + 1) ≡ l .r .limit - h = omega (arith, l .wide) in
       ap₂ (λ (v n : ℕ). seek (unfilled v (l .places) (l .i)) (h + 1) n) (l .wide) left
 
   pub too-long : l .w ≤ h → found 20 (l .i) 0 ≡ from20
   unfolding findingOf
-  too-long g = reported (found 20 (l .i) 0) from21 (lt-ltb (l .m .longest) h (omega (arith, l .wide)))
+  too-long g = reported (found 20 (l .i) 0) from21 (lt-ltb (l .r .limit) h (omega (arith, l .wide)))
 
   pub not-long : h < l .w → from21 ≡ from20
   unfolding findingOf
-  not-long g = passed (found 20 (l .i) 0) from21 (le-ltb (l .m .longest) h (omega (arith, l .wide)))
+  not-long g = passed (found 20 (l .i) 0) from21 (le-ltb (l .r .limit) h (omega (arith, l .wide)))
 
   pub wrong-start : {x : ℕ} → x ≡ here 0 → x ≢ l .s → found 21 (l .i) 0 ≡ from21
   wrong-start e ne = reported (found 21 (l .i) 0) from22 (differs 0 (l .s) e ne)

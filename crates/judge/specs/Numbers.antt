@@ -1,7 +1,7 @@
 -- The numbers of the findings are 20 and more (`finding-numbered`): so what the judge tells is all 0 exactly where nothing stands against the
 -- request and nothing is found (`rule-clean`). Assumes nothing.
 use Prim.Native.Nat.{ℕ, zero, suc, _≤_}
-use mathlib.Core.Path.{_≡_, refl, sym, ap, _∙_}
+use mathlib.Core.Path.{_≡_, refl, sym, ap}
 use mathlib.Core.Bool.{Bool, true, false, not}
 use mathlib.Core.Logic.{_≢_}
 use mathlib.Core.List.{List}
@@ -14,10 +14,11 @@ use Rattle.scan.specs.Scan.{Spot, nowhere, at}
 use Rattle.answers.specs.Told.{number}
 use Rattle.answers.specs.Laws.{number-some}
 use Rattle.answers.specs.declared.Refusal.{Refusal}
-use Rattle.paths.specs.Mesh.{Mesh, width}
+use Rattle.paths.specs.Mesh.{Mesh}
+use Rattle.paths.specs.Rules.{Rules, span, fanRules}
 use Rattle.paths.specs.Fan.{relay, hops}
-use Rattle.paths.specs.Finding.{Finding, clean, found, report, report-at, unlinkedAt, seenAt, unfilledAt, findingOf, findingFrom, finding}
-use Rattle.judge.specs.Verdict.{Ruling, ruling, numberOf, rule, named}
+use Rattle.paths.specs.Finding.{Finding, clean, found, report, report-at, unlinkedAt, seenAt, unfilledAt, findingOf, findingFrom, findingBy, finding}
+use Rattle.judge.specs.Says.{ruling, numberOf, rule, named}
 use Rattle.judge.specs.declared.Finding as code
 use Rattle.judge.specs.declared.Finding.the-variants.{TooLong, NotFromSource, NotLinked, NotToTarget, SeenAgain, NotFilled}
 
@@ -38,23 +39,26 @@ numbered-at : (sp : Spot) (n i : ℕ) {rest : Finding} → 20 ≤ n → Numbered
 numbered-at nowhere n i h r = r
 numbered-at (at p) n i h r = numbered-found n i p h
 
-module _ (m : Mesh) (s : ℕ) (targets places counts : List ℕ) where
-  from-numbered : (i n : ℕ) → Numbered (findingFrom m s targets places counts i n)
+module _ (r : Rules) (s : ℕ) (targets places counts : List ℕ) where
+  from-numbered : (i n : ℕ) → Numbered (findingFrom r s targets places counts i n)
   unfolding findingFrom findingOf
   from-numbered i zero = numbered-clean
   from-numbered i (suc n) =
-      let w = width m in
+      let w = span r in
       let h = hops counts i in
-      numbered-report (ltb (m .longest) h) 20 i 0 (omega arith)
+      numbered-report (ltb (r .limit) h) 20 i 0 (omega arith)
       (numbered-report (not (eqb (relay w places i 0) s)) 21 i 0 (omega arith)
-      (numbered-at (unlinkedAt m places counts i) 22 i (omega arith)
+      (numbered-at (unlinkedAt r places counts i) 22 i (omega arith)
       (numbered-report (not (eqb (relay w places i h) (getD targets i 0))) 23 i h (omega arith)
-      (numbered-at (seenAt w places counts i) 24 i (omega arith)
-      (numbered-at (unfilledAt m places counts i) 25 i (omega arith) (from-numbered (suc i) n))))))
+      (numbered-at (seenAt r places counts i) 24 i (omega arith)
+      (numbered-at (unfilledAt r places counts i) 25 i (omega arith) (from-numbered (suc i) n))))))
 
-  pub finding-numbered : Numbered (finding m s targets places counts)
-  unfolding finding
-  finding-numbered = from-numbered 0 (length targets)
+  findings-numbered : Numbered (findingBy r s targets places counts)
+  unfolding findingBy
+  findings-numbered = from-numbered 0 (length targets)
+
+pub finding-numbered : (m : Mesh) (s : ℕ) (targets places counts : List ℕ) → Numbered (finding m s targets places counts)
+finding-numbered m = findings-numbered (fanRules m)
 
 -- the numbers of refusals and findings are not 0
 pub refused-number : (why : Refusal) → numberOf (rule (some why) clean) ≢ 0

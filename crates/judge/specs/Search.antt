@@ -10,13 +10,12 @@ use native.Mathlib.Omega.{arith}
 use native.Mathlib.Decide.{ℕ-discrete}
 use lib.ListN.{length, getD}
 use Rattle.scan.specs.Scan.{Spot, nowhere, at}
-use Rattle.paths.specs.Mesh.{Mesh, width}
-use Rattle.paths.specs.Fan.{hops}
-use Rattle.paths.specs.Finding.{Finding, clean, found, report, report-at, findingOf, findingFrom, finding}
+use Rattle.paths.specs.Rules.{Rules, span}
+use Rattle.paths.specs.Finding.{Finding, clean, found, report, report-at, findingOf, findingFrom, findingBy}
+use Rattle.paths.specs.Places.{row-below}
 use Rattle.paths.specs.Clear.{path-clear}
-use Rattle.judge.specs.Verdict.{named, searchOf}
-use Rattle.judge.specs.Needs.{Row, Held}
-use Rattle.judge.specs.Rows.{row-below}
+use Rattle.judge.specs.Says.{named, searchOf}
+use Rattle.judge_rows.specs.Needs.{Held}
 use Rattle.judge.specs.declared.Search.{Search}
 use Rattle.judge.specs.declared.Search.the-variants as search
 use Rattle.judge.specs.declared.Finding as code
@@ -46,15 +45,15 @@ before-named (NotFilled i p) rest = refl
 
 -- ---- the search at path i
 
-module _ (m : Mesh) (s : ℕ) (targets places counts : List ℕ) where
+module _ (r : Rules) (s : ℕ) (targets places counts : List ℕ) where
   -- path i by itself, and the paths from path i on
   abbrev pub path : ℕ → Finding
-  path i = findingOf m s (getD targets i 0) places counts i clean
+  path i = findingOf r s (getD targets i 0) places counts i clean
 
   abbrev from : ℕ → Finding
-  from i = findingFrom m s targets places counts i (length targets - i)
+  from i = findingFrom r s targets places counts i (length targets - i)
 
-  path-first : (i : ℕ) (rest : Finding) → before (path i) rest ≡ findingOf m s (getD targets i 0) places counts i rest
+  path-first : (i : ℕ) (rest : Finding) → before (path i) rest ≡ findingOf r s (getD targets i 0) places counts i rest
   unfolding findingOf
   path-first i rest = simp (before-report, before-at)
 
@@ -62,25 +61,25 @@ module _ (m : Mesh) (s : ℕ) (targets places counts : List ℕ) where
   unfolding findingFrom
   from-path i l =
       let left : length targets - i ≡ suc (length targets - (i + 1)) = omega arith in
-      ap (findingFrom m s targets places counts i) left
-      ∙ ap (λ (j : ℕ). findingOf m s (getD targets i 0) places counts i (findingFrom m s targets places counts j (length targets - (i + 1)))) (sym (add-one i))
+      ap (findingFrom r s targets places counts i) left
+      ∙ ap (λ (j : ℕ). findingOf r s (getD targets i 0) places counts i (findingFrom r s targets places counts j (length targets - (i + 1)))) (sym (add-one i))
       ∙ sym (path-first i (from (i + 1)))
 
   -- nothing was found on the paths before path i, which are held
   pub record Searched (w i : ℕ) : Type 0 where
-    pub wide : w ≡ width m
+    pub wide : w ≡ span r
     pub room : length targets * w ≤ length places
     pub counted : length targets ≤ length counts
-    pub rest : from i ≡ finding m s targets places counts
+    pub rest : from i ≡ findingBy r s targets places counts
     pub held : (j : ℕ) → j < i → Held w (length places) counts j
 
-  pub search-starts : {w : ℕ} → w ≡ width m → length targets * width m ≤ length places → length targets ≤ length counts → Searched w 0
-  unfolding finding
+  pub search-starts : {w : ℕ} → w ≡ span r → length targets * w ≤ length places → length targets ≤ length counts → Searched w 0
+  unfolding findingBy
   search-starts {w} e l g = record {
     wide = e;
-    room = rw e l;
+    room = l;
     counted = g;
-    rest = ap (findingFrom m s targets places counts 0) none-before;
+    rest = ap (findingFrom r s targets places counts 0) none-before;
     held = λ j h. absurd (omega arith);
   }
     where
@@ -94,11 +93,11 @@ module _ (m : Mesh) (s : ℕ) (targets places counts : List ℕ) where
   -- a clean path is held too
   clean-held : {w i : ℕ} → Searched w i → i < length targets → path i ≡ clean → Held w (length places) counts i
   clean-held {w} {i} v l e =
-      let c = path-clear m s (getD targets i 0) places counts i clean e .0 in
+      let c = path-clear r s (getD targets i 0) places counts i clean e .0 in
       record { counted = omega (arith, v .counted); row = record { room = search-room v l; short = omega (arith, c .short, v .wide) } }
 
-  pub search-goes-on : {w i : ℕ} {r : Search} → Searched w i → i < length targets → r ≡ search.Clean → searchOf r ≡ path i → Searched w (i + 1)
-  search-goes-on {w} {i} {r} v l g f = record {
+  pub search-goes-on : {w i : ℕ} {a : Search} → Searched w i → i < length targets → a ≡ search.Clean → searchOf a ≡ path i → Searched w (i + 1)
+  search-goes-on {w} {i} {a} v l g f = record {
     wide = v .wide;
     room = v .room;
     counted = v .counted;
@@ -113,13 +112,13 @@ module _ (m : Mesh) (s : ℕ) (targets places counts : List ℕ) where
       go j h (yes d) = rw d (clean-held v l (sym nothing))
       go j h (no ne) = v .held j (omega arith)
 
-  pub search-finds : {w i : ℕ} {f : code.Finding} {r : Search} → Searched w i → i < length targets → r ≡ search.Found f → searchOf r ≡ path i
-      → named f ≡ finding m s targets places counts
-  search-finds {w} {i} {f} {r} v l g e =
+  pub search-finds : {w i : ℕ} {f : code.Finding} {a : Search} → Searched w i → i < length targets → a ≡ search.Found f → searchOf a ≡ path i
+      → named f ≡ findingBy r s targets places counts
+  search-finds {w} {i} {f} {a} v l g e =
       sym (before-named f (from (i + 1))) ∙ ap (λ (x : Finding). before x (from (i + 1))) (sym (ap searchOf g) ∙ e) ∙ sym (from-path i l) ∙ v .rest
 
-  pub search-ends : {w i : ℕ} → Searched w i → length targets ≤ i → clean ≡ finding m s targets places counts
+  pub search-ends : {w i : ℕ} → Searched w i → length targets ≤ i → clean ≡ findingBy r s targets places counts
   unfolding findingFrom
   search-ends {w} {i} v l =
       let none : 0 ≡ length targets - i = omega arith in
-      ap (findingFrom m s targets places counts i) none ∙ v .rest
+      ap (findingFrom r s targets places counts i) none ∙ v .rest

@@ -4,14 +4,13 @@ use mathlib.Core.Path.{_≡_, refl, sym, ap, _∙_}
 use mathlib.Core.Bool.{Bool}
 use mathlib.Core.List.{List}
 use mathlib.Core.Option.{none, some}
-use lib.Dec.{eqb, leb}
+use lib.Dec.{eqb}
 use Rattle.scan.specs.Scan.{pick}
-use Rattle.answers.specs.Told.{number, place}
-use Rattle.answers.specs.Laws.{refusal, refusal-back, number-some, number-below}
+use Rattle.answers.specs.Laws.{refusal, refusal-back, number-some, number-apart, isFinding}
 use Rattle.answers.specs.declared.Refusal.{Refusal}
 use Rattle.paths.specs.Finding.{clean}
 use Rattle.mesh.specs.Kinds.{Kind}
-use Rattle.judge.specs.Verdict.{Ruling, ruling, rule, named, verdictTold, judgeTold}
+use Rattle.judge.specs.Says.{Ruling, ruling, rule, named, verdictTold, judgeTold}
 use Rattle.judge.specs.declared.Finding as code
 use Rattle.judge.specs.declared.Finding.the-variants.{TooLong, NotFromSource, NotLinked, NotToTarget, SeenAgain, NotFilled}
 use Rattle.judge.specs.declared.Verdict.{Verdict}
@@ -27,10 +26,10 @@ findingAt n i p =
     (pick (eqb n 24) (SeenAgain i p) (NotFilled i p)))))
 
 verdictOf : Ruling → Verdict
-verdictOf (ruling n i p) = pick (eqb n 0) verdict.Fan (pick (leb 20 n) (verdict.Found (findingAt n i p)) (verdict.Refused (refusal n p)))
+verdictOf (ruling n i p) = pick (eqb n 0) verdict.Fan (pick (isFinding n) (verdict.Found (findingAt n i p)) (verdict.Refused (refusal n p)))
 
 found-back : (f : code.Finding) → verdictOf (rule none (named f)) ≡ verdict.Found f
-unfolding verdictOf findingAt
+unfolding verdictOf findingAt isFinding
 found-back (TooLong i) = refl
 found-back (NotFromSource i) = refl
 found-back (NotLinked i p) = refl
@@ -40,7 +39,7 @@ found-back (NotFilled i p) = refl
 
 refused-back : (why : Refusal) → verdictOf (rule (some why) clean) ≡ verdict.Refused why
 unfolding verdictOf
-refused-back why = simp (number-some why, number-below why) (ap verdict.Refused (refusal-back why))
+refused-back why = simp (number-some why, number-apart why .1) (ap verdict.Refused (refusal-back why))
 
 verdict-back : (v : Verdict) → verdictOf (verdictTold v) ≡ v
 unfolding verdictOf

@@ -1,17 +1,16 @@
 // The judge: the first finding of a set of paths, or that it is a fan.
 mod found;
-mod rows;
 
-pub use rows::relay;
 ghost use mathlib.Core.Path.{_≡_};
 ghost use mathlib.Core.Bool.{true, false};
 ghost use Prim.Native.Nat.{_≤_};
 ghost use Rattle.scan.specs.Scan.{pick};
 ghost use Rattle.mesh.specs.Kinds.{kindOf, meshOf, known};
 ghost use Rattle.mesh.specs.Says.{short};
-ghost use Rattle.judge.specs.Verdict as specs;
+ghost use Rattle.judge.specs.Says as specs;
 use answers::Checked;
 use answers::Refusal;
+use judge_rows::Rules;
 use mesh::Mesh;
 
 // What is wrong with a path: its number, counted from 0, and for most findings a place of it.
@@ -151,7 +150,11 @@ pub fn judge_with(
     if wanting(mesh, targets.len(), places.len(), counts.len(), lacking) {
         return Verdict::Refused(Refusal::NoRoom);
     }
-    let ended = found::first_finding(mesh, source, targets, places, counts);
+    let rules = Rules {
+        mesh: mesh,
+        width: mesh::places_in(mesh) as usize,
+    };
+    let ended = found::first_finding(rules, source, targets, places, counts);
     match ended {
         Search::Clean => Verdict::Fan,
         Search::Found(f) => Verdict::Found(f),

@@ -6,8 +6,7 @@ use mathlib.Core.List.{List, [], _++_}
 use mathlib.Core.Option.{Option, none, some}
 use lib.Dec.{ltb}
 use lib.ListN.{length, drop}
-use Rattle.scan.specs.Scan.{nowhere}
-use Rattle.answers.specs.Order.{Faults, first}
+use Rattle.answers.specs.Order.{Fault, first, readFaults, roomFaults}
 use Rattle.answers.specs.Told.{Told, told, tell, leaves}
 use Rattle.answers.specs.declared.Refusal.{Refusal}
 use Rattle.line.specs.Text.{Request}
@@ -39,20 +38,8 @@ headOf none = noHead
 headOf (some q) = head (q .kind) (q .size) (q .source) (length (q .targets))
 
 -- a line that cannot be read, too few places
-abbrev pub lineFaults : (unreadable room : Bool) → Faults
-lineFaults unreadable room = record {
-  unreadable = unreadable;
-  unknown = false;
-  undistanced = false;
-  source = false;
-  empty = false;
-  many = false;
-  out = nowhere;
-  same = nowhere;
-  again = nowhere;
-  doors = false;
-  room = room;
-}
+abbrev pub lineFaults : (unreadable room : Bool) → List Fault
+lineFaults unreadable room = readFaults unreadable ++ roomFaults room
 
 -- what stands against reading a line into so many places
 abbrev pub lineAgainst : Option Request → ℕ → Option Refusal

@@ -6,28 +6,41 @@ use mathlib.Core.Option.{Option}
 use lib.Dec.{leb, ltb}
 use lib.ListN.{length, drop}
 use Rattle.scan.specs.Scan.{pick}
-use Rattle.answers.specs.Order.{first, sizeFaults, pairFaults, requestFaults}
+use Rattle.answers.specs.Order.{Fault, first, sizeFaults, distanceFaults, pairFaults, requestFaults, roomFaults}
 use Rattle.answers.specs.Told.{Told, tell, leaves}
 use Rattle.answers.specs.declared.Refusal.{Refusal}
 use Rattle.paths.specs.Mesh.{Mesh, width}
-use Rattle.hops.specs.Ways.{distance}
+use Rattle.paths.specs.Ways.{distance}
 use Rattle.mesh.specs.Kinds.{Kind}
 use Rattle.mesh.specs.declared.Fact.{Fact}
 use Rattle.mesh.specs.declared.Fact.the-variants.{Relays, Links, Longest, Places}
 
--- ---- what stands against a size, a pair, a request
+-- ---- what may stand against a size, a pair, a request: the faults of each routine, in its order
 
 -- 1
-abbrev pub sizeAgainst : (k : Kind) (n : ℕ) → Option Refusal
-sizeAgainst k n = first (sizeFaults (not (k .known n)))
+abbrev pub sizeFaultsIn : (k : Kind) (n : ℕ) → List Fault
+sizeFaultsIn k n = sizeFaults (not (k .known n))
 
 -- 1, 2, 5, and 8 where there is no room
-abbrev pub pairAgainst : (k : Kind) (n s t : ℕ) (room : Bool) → Option Refusal
-pairAgainst k n s t room = first (pairFaults (not (k .known n)) false (k .mesh n .relays) s t room)
+abbrev pub pairFaultsIn : (k : Kind) (n s t : ℕ) (room : Bool) → List Fault
+pairFaultsIn k n s t room = sizeFaultsIn k n ++ pairFaults (k .mesh n .relays) s t ++ roomFaults room
+
+-- 1, 9, 2, 5
+abbrev pub distanceFaultsIn : (k : Kind) (n s t : ℕ) → List Fault
+distanceFaultsIn k n s t = sizeFaultsIn k n ++ distanceFaults (k .undistanced n) ++ pairFaults (k .mesh n .relays) s t
 
 -- 1 to 7, and 8 where there is no room
+abbrev pub requestFaultsIn : (k : Kind) (n s : ℕ) (targets : List ℕ) (room : Bool) → List Fault
+requestFaultsIn k n s targets room = sizeFaultsIn k n ++ requestFaults (k .mesh n .relays) (k .mesh n .links) s targets ++ roomFaults room
+
+abbrev pub sizeAgainst : (k : Kind) (n : ℕ) → Option Refusal
+sizeAgainst k n = first (sizeFaultsIn k n)
+
+abbrev pub pairAgainst : (k : Kind) (n s t : ℕ) (room : Bool) → Option Refusal
+pairAgainst k n s t room = first (pairFaultsIn k n s t room)
+
 abbrev pub requestAgainst : (k : Kind) (n s : ℕ) (targets : List ℕ) (room : Bool) → Option Refusal
-requestAgainst k n s targets room = first (requestFaults (not (k .known n)) (k .mesh n .relays) (k .mesh n .links) s targets false room)
+requestAgainst k n s targets room = first (requestFaultsIn k n s targets room)
 
 -- fewer places than k paths take, or fewer counts than k
 abbrev pub short : (m : Mesh) (k places counts : ℕ) → Bool
@@ -53,7 +66,7 @@ nextTold k n s t = tell (pairAgainst k n s t false) 0 (k .next n s t)
 
 -- 9 after 1; the fewest links between two relays
 abbrev pub distanceTold : (k : Kind) (n s t : ℕ) → Told ℕ
-distanceTold k n s t = tell (first (pairFaults (not (k .known n)) (k .undistanced n) (k .mesh n .relays) s t false)) 0 (distance (k .mesh n) s t)
+distanceTold k n s t = tell (first (distanceFaultsIn k n s t)) 0 (distance (k .mesh n) s t)
 
 -- what stands against a route into so many places: they are to be one more than its hops
 abbrev pub routeAgainst : (k : Kind) (n s t places : ℕ) → Option Refusal

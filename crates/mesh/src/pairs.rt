@@ -59,7 +59,7 @@ pub fn distance(mesh: Mesh, source: u64, target: u64) -> Answer
         return no_distance(Size(mesh.size));
     }
     if mesh.kind == Mesh::TWO {
-        return hops::distance(Order(mesh.size), source, target);
+        return two_distance::distance(Order(mesh.size), source, target);
     }
     Answer::Refused(Refusal::UnknownSize)
 }
@@ -87,5 +87,8 @@ pub fn joined(mesh: Mesh, u: u64, v: u64) -> bool
     if mesh.kind == Mesh::CUBE {
         return cube::differ_in_one(u, v);
     }
-    two::link(Order(mesh.size), u, v)
+    if mesh.kind == Mesh::TWO {
+        return two_parts::link(Order(mesh.size), u, v);
+    }
+    false
 }

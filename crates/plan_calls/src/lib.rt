@@ -1,26 +1,12 @@
 // The planners over plain numbers, exported: what the benchmark and the tests in C++ call. Each call returns the number of the refusal, or 0.
-ghost use mathlib.Core.Path.{_≡_};
-ghost use mathlib.Core.Bool.{false};
 ghost use lib.ListN.{length};
-ghost use Rattle.answers.specs.Told.{against};
 ghost use Rattle.mesh.specs.Kinds.{kindOf, meshOf};
 ghost use Rattle.mesh.specs.Says.{requestAgainst, short};
 ghost use Rattle.cube.specs.Cube.{cube};
-ghost use Rattle.cube_fan.specs.Promise.{faults, badDoors};
-ghost use Rattle.plan_calls.specs.Called.{numberTold, Called, CalledThrough};
-use answers::Checked;
+ghost use Rattle.cube_plan.specs.Says.{planAgainst, throughAgainst};
+ghost use Rattle.plan_calls.specs.Called.{Called, CalledThrough};
 use cube::Size;
 use mesh::Mesh;
-
-// The number of the refusal, or 0.
-fn number(checked: Checked) -> u64
-    ensures { λ r. ⌜ r ≡ numberTold (against checked) ⌝ }
-{
-    match checked {
-        Checked::Fine => 0,
-        Checked::Refused(why) => why.number(),
-    }
-}
 
 // `planner::plan` in the mesh of a kind and size.
 #[no_mangle]
@@ -35,10 +21,11 @@ pub extern "C" fn gustparsley_plan_places(
     ensures { λ r. ⌜ Called (requestAgainst (kindOf kind) size source (now (targets .entry)) (short (meshOf kind size) (length (now (targets .entry))) (length (now (places .entry))) (length (now (counts .entry))))) (meshOf kind size) source (now (targets .entry)) (now (places .entry)) (now (counts .entry)) r (now (places .exit)) (now (counts .exit)) ⌝ }
 {
     let mesh = Mesh { kind, size };
-    number(planner::plan(mesh, source, targets, places, counts))
+    let checked = planner::plan(mesh, source, targets, places, counts);
+    checked.number()
 }
 
-// `cube_fan::plan` in the cube of n dimensions: the cube's planner alone, for its time and its stack.
+// `cube_plan::plan` in the cube of n dimensions: the cube's planner alone, for its time and its stack.
 #[no_mangle]
 pub extern "C" fn gustparsley_cube_plan(
     n: u64,
@@ -47,12 +34,13 @@ pub extern "C" fn gustparsley_cube_plan(
     places: &mut [u64],
     counts: &mut [u64],
 ) -> u64
-    ensures { λ r. ⌜ Called (faults n source (now (targets .entry)) false (now (places .entry)) (now (counts .entry))) (cube n) source (now (targets .entry)) (now (places .entry)) (now (counts .entry)) r (now (places .exit)) (now (counts .exit)) ⌝ }
+    ensures { λ r. ⌜ Called (planAgainst n source (now (targets .entry)) (now (places .entry)) (now (counts .entry))) (cube n) source (now (targets .entry)) (now (places .entry)) (now (counts .entry)) r (now (places .exit)) (now (counts .exit)) ⌝ }
 {
-    number(cube_fan::plan(Size(n), source, targets, places, counts))
+    let checked = cube_plan::plan(Size(n), source, targets, places, counts);
+    checked.number()
 }
 
-// `cube_fan::plan_through` in the cube of n dimensions.
+// `cube_plan::plan_through` in the cube of n dimensions.
 #[no_mangle]
 pub extern "C" fn gustparsley_cube_plan_through(
     n: u64,
@@ -62,7 +50,8 @@ pub extern "C" fn gustparsley_cube_plan_through(
     places: &mut [u64],
     counts: &mut [u64],
 ) -> u64
-    ensures { λ r. ⌜ CalledThrough (faults n source (now (targets .entry)) (badDoors n doors (now (targets .entry))) (now (places .entry)) (now (counts .entry))) n source doors (now (targets .entry)) (now (places .entry)) (now (counts .entry)) r (now (places .exit)) (now (counts .exit)) ⌝ }
+    ensures { λ r. ⌜ CalledThrough (throughAgainst n source doors (now (targets .entry)) (now (places .entry)) (now (counts .entry))) n source doors (now (targets .entry)) (now (places .entry)) (now (counts .entry)) r (now (places .exit)) (now (counts .exit)) ⌝ }
 {
-    number(cube_fan::plan_through(Size(n), source, doors, targets, places, counts))
+    let checked = cube_plan::plan_through(Size(n), source, doors, targets, places, counts);
+    checked.number()
 }

@@ -10,22 +10,22 @@ use lib.ListN.{length}
 use borrow.Author.Tests.{le-ltb, lt-leb}
 use Rattle.scan.specs.Scan.{pick, any}
 use Rattle.scan.specs.Laws.{false-any}
-use Rattle.answers.specs.Order.{refuse}
+use Rattle.answers.specs.Order.{refuse, before}
 use Rattle.answers.specs.Told.{told, against, answerTold}
 use Rattle.answers.specs.declared.Answer.{Answer}
 use Rattle.answers.specs.declared.Refusal.{Refusal}
 use Rattle.answers.specs.declared.Refusal.the-variants.{NoRoom}
 use Rattle.answers.specs.declared.Checked.{Checked}
 use Rattle.answers.specs.declared.Checked.the-variants as checked
-use Rattle.requests.specs.Sound.{before}
 use Rattle.paths.specs.Mesh.{Mesh, width}
 use Rattle.paths.specs.Fan.{hops, Fan}
 use Rattle.mesh.specs.Kinds.{Kind, kindOf, meshOf, known}
 use Rattle.mesh.specs.Says.{requestAgainst, short}
+use Rattle.mesh.specs.Limits.{mostPlaces}
 use Rattle.mesh.specs.Requests.{Fine, request-room, request-fine}
-use Rattle.requests.specs.Planned.{Planned}
+use Rattle.requests.specs.Planned.{Planned, planned-against}
 use Rattle.line.specs.Written.{fanText, refusedText, refusedRoom, overlong, fanRoom, wanting, writeTold, writeLeaves}
-use Rattle.reply.specs.Replies.{Ruled, faultOf, AnswersTo, Said, replyRoom}
+use Rattle.reply.specs.Says.{Ruled, faultOf, AnswersTo, Said, replyRoom}
 use Rattle.reply.specs.Sizes.{Enough, enough}
 
 -- what a request is answered by
@@ -45,7 +45,7 @@ pub refusal-said : {r : Answer} (why : Refusal) (was : List ℕ) {now : List ℕ
     → answerTold r ≡ writeTold (ltb (length was) refusedRoom) (refusedText why) → now ≡ writeLeaves (ltb (length was) refusedRoom) (refusedText why) was → Said (refusedText why) was r now
 refusal-said why was h = written-said (refusedText why) was (ltb (length was) refusedRoom) (le-ltb (length was) refusedRoom (omega arith))
 
-module _ (kind n s : ℕ) (targets places counts : List ℕ) (p : length places ≡ 1242) (q : length counts ≡ 64) where
+module _ (kind n s : ℕ) (targets places counts : List ℕ) (p : length places ≡ mostPlaces) (q : length counts ≡ 64) where
   abbrev K : Kind
   K = kindOf kind
 
@@ -77,7 +77,7 @@ module _ (kind n s : ℕ) (targets places counts : List ℕ) (p : length places 
   module _ {r : Checked} {places₁ counts₁ : List ℕ}
       (w : Planned (requestAgainst K n s targets (short m k (length places) (length counts))) m s targets places counts r places₁ counts₁) where
     fault : {c : Checked} → r ≡ c → against c ≡ faultOf kind n s targets
-    fault e = sym (ap against e) ∙ w .told ∙ room-unasked
+    fault e = sym (ap against e) ∙ planned-against w ∙ room-unasked
 
     pub plan-refused : {why : Refusal} {a : Answer} {was now : List ℕ} → r ≡ checked.Refused why → Said (refusedText why) was a now → Ruling kind n s targets was a now
     plan-refused {why} e t = record { said = refusedText why; ruled = subst (λ (o : Option Refusal). Ruled m s targets o (refusedText why)) (fault e) refl; says = t }
@@ -90,7 +90,7 @@ module _ (kind n s : ℕ) (targets places counts : List ℕ) (p : length places 
       plan-known = planned-fine .known
 
       planned-fan : Fan m s targets places₁ counts₁
-      planned-fan = w .fan (sym (w .told) ∙ ap against e)
+      planned-fan = w .fan (sym (planned-against w) ∙ ap against e)
 
       none-overlong : any (overlong (width m) counts₁) 0 k ≡ false
       none-overlong = false-any (overlong (width m) counts₁) 0 k (λ i a b. lt-leb (width m) (hops counts₁ i) (omega (arith, planned-fan .path i (omega arith) .short)))

@@ -1,5 +1,5 @@
 -- A request line answered by the text of a fan, or of a refusal.
-pub mod Replies
+pub mod Says
 pub mod Sizes
 pub mod Laws
 pub mod Lines

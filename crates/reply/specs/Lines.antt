@@ -23,7 +23,7 @@ use Rattle.line.specs.Written.{refusedText}
 use Rattle.line.specs.declared.Line.{Line}
 use Rattle.line.specs.declared.Line.the-variants as line
 use Rattle.line.specs.declared.Asked.{Asked}
-use Rattle.reply.specs.Replies.{Answers, AnsweredIn, Answered, Replied, Said, replyRoom}
+use Rattle.reply.specs.Says.{Answers, AnsweredIn, Answered, Replied, Said, replyRoom}
 use Rattle.reply.specs.Laws.{Ruling}
 
 -- the request that is told and left

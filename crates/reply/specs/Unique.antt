@@ -17,7 +17,7 @@ use Rattle.line.specs.Text.{Request}
 use Rattle.line.specs.Parse.{asked}
 use Rattle.line.specs.Lines.{same-some}
 use Rattle.line.specs.Written.{refusedText}
-use Rattle.reply.specs.Replies.{Ruled, faultOf, Answers, Said, replyRoom, Replied, AnsweredIn, Answered}
+use Rattle.reply.specs.Says.{Ruled, faultOf, Answers, Said, replyRoom, Replied, AnsweredIn, Answered}
 
 -- what stands against a line: 10, or what stands against its request
 abbrev pub faultIn : Option Request → Option Refusal

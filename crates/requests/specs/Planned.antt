@@ -9,8 +9,8 @@ use mathlib.Core.Option.{Option, none, some}
 use native.Mathlib.Omega.{arith}
 use lib.ListN.{length, getD, drop, length-drop}
 use lib.Seq.{getD-drop, ext-getD}
-use Rattle.answers.specs.Laws.{checked-unique}
-use Rattle.answers.specs.Told.{against}
+use Rattle.answers.specs.Laws.{checked-against, checked-unique}
+use Rattle.answers.specs.Told.{checkedTold, tell, against}
 use Rattle.answers.specs.declared.Refusal.{Refusal}
 use Rattle.answers.specs.declared.Checked.{Checked}
 use Rattle.answers.specs.declared.Checked.the-variants as checked
@@ -21,7 +21,7 @@ use Rattle.paths.specs.Judged.{fan-clean}
 
 -- what comes back and what the slices hold afterwards, where o stands against the request
 pub record Planned (o : Option Refusal) (mesh : Mesh) (s : ℕ) (targets places counts : List ℕ) (r : Checked) (places₁ counts₁ : List ℕ) : Type 0 where
-  pub told : against r ≡ o
+  pub told : checkedTold r ≡ tell o 0 0
   pub fan : o ≡ none → Fan mesh s targets places₁ counts₁
   pub beyond : drop (length targets * width mesh) places₁ ≡ drop (length targets * width mesh) places
   pub beyond-counts : drop (length targets) counts₁ ≡ drop (length targets) counts
@@ -36,7 +36,7 @@ not-both p q = let z : _≡_ {A = ℕ} 0 1 = cc in absurd (omega arith)
 pub refusal : {o : Option Refusal} {why : Refusal} (mesh : Mesh) (s : ℕ) (targets places counts : List ℕ) → o ≡ some why
     → Planned o mesh s targets places counts (checked.Refused why) places counts
 refusal mesh s targets places counts e = record {
-  told = sym e;
+  told = ap (λ (o : Option Refusal). tell o 0 0) (sym e);
   fan = λ z. not-both e z;
   beyond = refl;
   beyond-counts = refl;
@@ -56,7 +56,7 @@ pub granted : {o : Option Refusal} (mesh : Mesh) (s : ℕ) (targets places count
     → ((i : ℕ) → length targets * width mesh ≤ i → getD places₁ i 0 ≡ getD places i 0) → ((i : ℕ) → length targets ≤ i → getD counts₁ i 0 ≡ getD counts i 0)
     → length places₁ ≡ length places → length counts₁ ≡ length counts → Planned o mesh s targets places counts checked.Fine places₁ counts₁
 granted mesh s targets places counts places₁ counts₁ e f rest kept long long-counts = record {
-  told = sym e;
+  told = ap (λ (o : Option Refusal). tell o 0 0) (sym e);
   fan = λ z. f;
   beyond = drop-same (length targets * width mesh) places₁ places long rest;
   beyond-counts = drop-same (length targets) counts₁ counts long-counts kept;
@@ -67,6 +67,11 @@ granted mesh s targets places counts places₁ counts₁ e f rest kept long long
 
 -- ---- what is planned
 
+-- what is told says what stood against it
+pub planned-against : {o : Option Refusal} {mesh : Mesh} {s : ℕ} {targets places counts places₁ counts₁ : List ℕ} {r : Checked}
+    → Planned o mesh s targets places counts r places₁ counts₁ → against r ≡ o
+planned-against {o} {r = r} a = checked-against r o (a .told)
+
 pub planned-clean : {o : Option Refusal} {mesh : Mesh} {s : ℕ} {targets places counts places₁ counts₁ : List ℕ} {r : Checked}
     → Planned o mesh s targets places counts r places₁ counts₁ → o ≡ none → finding mesh s targets places₁ counts₁ ≡ clean
 planned-clean {o} {mesh} {s} {targets} {places} {counts} {places₁} {counts₁} a e = fan-clean mesh s targets places₁ counts₁ (a .fan e)
@@ -76,7 +81,7 @@ pub planned-one : {o : Option Refusal} {mesh : Mesh} {s : ℕ} {targets places c
     → (r ≡ r₁) × (drop (length targets * width mesh) p ≡ drop (length targets * width mesh) p₁) × (drop (length targets) c ≡ drop (length targets) c₁)
     × ((why : Refusal) → o ≡ some why → (p ≡ p₁) × (c ≡ c₁))
 planned-one {r = r} {r₁ = r₁} a b = (
-  checked-unique r r₁ (a .told ∙ sym (b .told)),
+  checked-unique r r₁ (planned-against a ∙ sym (planned-against b)),
   a .beyond ∙ sym (b .beyond),
   a .beyond-counts ∙ sym (b .beyond-counts),
   λ why e. (a .refused why e .0 ∙ sym (b .refused why e .0), a .refused why e .1 ∙ sym (b .refused why e .1)),

@@ -1,10 +1,8 @@
 // What stands against a request: the reasons 2 to 7, in their order.
 ghost use mathlib.Core.Path.{_≡_};
-ghost use mathlib.Core.Bool.{false};
 ghost use Rattle.answers.specs.Told.{against};
-ghost use Rattle.answers.specs.Order.{first, requestFaults, firstAt, isOut, isSame, isAgain};
+ghost use Rattle.answers.specs.Order.{first, requestFaults, targetFaults, firstAt, isOut, isSame, isAgain};
 ghost use Rattle.scan.specs.Scan.{spotOf};
-ghost use Rattle.requests.specs.Request.{targetFaults};
 use answers::Checked;
 use answers::Refusal;
 use scan::Spot;
@@ -53,7 +51,7 @@ fn again_at(targets: &[u64]) -> Spot
 
 // What stands against a list of targets by themselves: 5, 6, 7.
 fn targets_checked(relays: u64, source: u64, targets: &[u64]) -> Checked
-    ensures { λ r. ⌜ against r ≡ targetFaults relays source (now (targets .entry)) ⌝ }
+    ensures { λ r. ⌜ against r ≡ first (targetFaults relays source (now (targets .entry))) ⌝ }
 {
     let out = out_at(relays, targets);
     if let Spot::At(j) = out {
@@ -72,7 +70,7 @@ fn targets_checked(relays: u64, source: u64, targets: &[u64]) -> Checked
 
 // What stands against a request in a mesh of so many relays, each with so many links: 2, 3, 4, 5, 6, 7.
 pub fn request(relays: u64, links: u64, source: u64, targets: &[u64]) -> Checked
-    ensures { λ r. ⌜ against r ≡ first (requestFaults false relays links source (now (targets .entry)) false false) ⌝ }
+    ensures { λ r. ⌜ against r ≡ first (requestFaults relays links source (now (targets .entry))) ⌝ }
 {
     if relays <= source {
         return Checked::Refused(Refusal::SourceOut);

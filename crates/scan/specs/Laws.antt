@@ -3,8 +3,8 @@
 -- A search of a run finds nothing exactly when the test fails at each number of it (`seek-none`, `none-seek`); what it finds
 -- is the first (`seek-first`). `any-true`, `true-any` and `false-any`, `any-false` say the same of `any`, `among-..` of a list.
 use Prim.Native.Nat.{ℕ, zero, suc, _+_, _≤_, _<_}
-use mathlib.Core.Path.{_≡_, refl, sym, ap, _∙_, subst}
-use mathlib.Core.Bool.{Bool, true, false}
+use mathlib.Core.Path.{_≡_, refl, sym, ap, _∙_}
+use mathlib.Core.Bool.{Bool, true, false, _&&_}
 use mathlib.Core.Logic.{_⊎_, inl, inr, ⊎-elim, _≢_}
 use mathlib.Core.List.{List, [], _∷_}
 use native.Mathlib.Omega.{arith}
@@ -29,6 +29,10 @@ true-false p q = let z : _≡_ {A = ℕ} 0 1 = sym (ap number q) ∙ ap number p
 
 pub not-true : {b : Bool} → (b ≡ true → ⊥) → b ≡ false
 not-true {b} h = ⊎-elim (λ t. absurd (h t)) (λ f. f) (true-or b)
+
+pub both-true : (a b : Bool) → (a && b) ≡ true → (a ≡ true) × (b ≡ true)
+both-true true b e = (refl, e)
+both-true false b e = absurd (true-false e refl)
 
 -- ---- seek
 

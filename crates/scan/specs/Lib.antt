@@ -2,4 +2,5 @@
 pub mod Scan
 pub mod Laws
 pub mod Counts
+pub mod Hits
 pub mod Runs

@@ -1,6 +1,8 @@
-// What the programs of worked cases share: numbers read from a text, runs of them, and numbers written.
+// What the programs of worked cases share: the numbers of standard input, runs of them, and numbers and answers written.
 ghost use Prim.Native.Nat.{_≤_};
 ghost use lib.ListN.{length};
+use answers::Answer;
+use answers::YesNo;
 
 // What the letter F stands for: 2^64 - 1.
 pub const FILLER: u64 = 18446744073709551615;
@@ -116,4 +118,32 @@ pub fn put_first(list: &[u64], n: usize) {
         put(list[i]);
         i += 1;
     }
+}
+
+// 1 for yes, 0 for no.
+pub fn flag(b: bool) -> u64 {
+    if b { 1 } else { 0 }
+}
+
+// What is told, after its name: number, place and value.
+pub fn put_answer(name: &[u8], a: Answer) {
+    text(name);
+    put(a.number());
+    put(a.place() as u64);
+    put(a.value());
+}
+
+pub fn put_yes_no(name: &[u8], a: YesNo) {
+    text(name);
+    put(a.number());
+    put(a.place() as u64);
+    put(flag(a.yes()));
+}
+
+// The numbers of standard input, as many as there is room for.
+pub fn read_numbers(bytes: &mut [u8], list: &mut [u64]) -> usize
+    ensures { λ r. ⌜ r ≤ length (now (list .exit)) ⌝ }
+{
+    let n = io::read_full(0, bytes);
+    numbers(&bytes[..n], list)
 }

@@ -1,6 +1,6 @@
 -- Why survivors keeps its promise: what it is to give where the judge finds a fan (`fan-ready`, `fan-survived`) and where not
 -- (`found-survived`, `refused-survived`). Assumes nothing.
-use Prim.Native.Nat.{ℕ, _*_, _≤_, _<_}
+use Prim.Native.Nat.{ℕ, _*_, _≤_}
 use mathlib.Core.Path.{_≡_, refl, sym, ap, ap₂, _∙_}
 use mathlib.Core.Bool.{Bool, true, false}
 use mathlib.Core.Logic.{_≢_}
@@ -8,28 +8,27 @@ use mathlib.Core.List.{List}
 use mathlib.Core.Option.{Option, none, some}
 use native.Mathlib.Omega.{arith}
 use lib.Dec.{ltb}
-use lib.ListN.{length, take, getD}
+use lib.ListN.{length}
 use borrow.Author.Tests.{ltb-false}
 use Rattle.scan.specs.Scan.{pick, count}
 use Rattle.answers.specs.declared.Refusal.{Refusal}
 use Rattle.paths.specs.Mesh.{width}
-use Rattle.paths.specs.Fan.{Fan}
 use Rattle.paths.specs.Finding.{Finding, clean, found, finding}
+use Rattle.paths.specs.Places.{row-below}
 use Rattle.paths.specs.Judged.{clean-fan}
-use Rattle.paths.specs.Whole.{whole}
+use Rattle.paths.specs.Whole.{Failed, whole}
 use Rattle.mesh.specs.Kinds.{Kind}
 use Rattle.mesh.specs.Says.{short}
 use Rattle.mesh.specs.Requests.{Fine, request-passed, neither-wanting, room-enough}
-use Rattle.judge.specs.Verdict.{ruling, numberOf, rule, verdictTold, judgeAgainst, judgeTold}
+use Rattle.judge.specs.Says.{ruling, numberOf, rule, verdictTold, judgeAgainst}
 use Rattle.judge.specs.Numbers.{finding-numbered, found-number, refused-number, rule-clean}
-use Rattle.judge.specs.Needs.{Row, Held}
-use Rattle.judge.specs.Rows.{row-below}
 use Rattle.judge.specs.declared.Finding as code
 use Rattle.judge.specs.declared.Verdict.{Verdict}
 use Rattle.judge.specs.declared.Verdict.the-variants as verdict
-use Rattle.survivors.specs.Tally.{tallied, verdictOf, countOf, tallyTold}
-use Rattle.survivors.specs.Promise.{ahead, marks, Columns, few, settled, lacking, survivorsTold, Survived}
-use Rattle.survivors.specs.Needs.{Filled}
+use Rattle.columns.specs.Says.{ahead, marks, Columns}
+use Rattle.columns.specs.Needs.{Filled}
+use Rattle.survivors.specs.Tally.{tallied, verdictOf, countOf}
+use Rattle.survivors.specs.Says.{few, settled, lacking, Survived}
 use Rattle.survivors.specs.declared.Tally.{Tally}
 use Rattle.survivors.specs.declared.Tally.the-variants as tally
 
@@ -51,7 +50,7 @@ few-enough k a b c e =
     let q = neither-wanting (ltb b k) (ltb c k) refl (p .1) in
     (ltb-false a k (p .0), ltb-false b k (q .0), ltb-false c k (q .1))
 
-module _ (K : Kind) (n s : ℕ) (targets places counts stopped ends hops wholes : List ℕ) where
+module _ (K : Kind) (n s : ℕ) (targets places counts : List ℕ) (fails : Failed) (ends hops wholes : List ℕ) where
   abbrev against : Option Refusal
   against = judgeAgainst K n s targets places counts (lacking targets ends hops wholes)
 
@@ -63,7 +62,7 @@ module _ (K : Kind) (n s : ℕ) (targets places counts stopped ends hops wholes 
 
   -- no fan: nothing is counted, and the columns stay
   not-survived : (t : Tally) → countOf t ≡ 0 → numberOf (verdictTold (verdictOf t)) ≢ 0 → verdictTold (verdictOf t) ≡ rule against first
-      → Survived K n s targets places counts stopped ends hops wholes t ends hops wholes
+      → Survived K n s targets places counts fails ends hops wholes t ends hops wholes
   not-survived t z ne e = record {
     told = ap₂ tallied e (z ∙ sym (stays _ 0));
     ended = sym (stays _ ends);
@@ -75,11 +74,11 @@ module _ (K : Kind) (n s : ℕ) (targets places counts stopped ends hops wholes 
       stays a b = settled-not a b against first (λ y. ne (ap numberOf e ∙ y))
 
   pub found-survived : {f : code.Finding} {v : Verdict} → v ≡ verdict.Found f → verdictTold v ≡ rule against first
-      → Survived K n s targets places counts stopped ends hops wholes (tally.Found f) ends hops wholes
+      → Survived K n s targets places counts fails ends hops wholes (tally.Found f) ends hops wholes
   found-survived {f} g e = not-survived (tally.Found f) refl (found-number f) (sym (ap verdictTold g) ∙ e)
 
   pub refused-survived : {why : Refusal} {v : Verdict} → v ≡ verdict.Refused why → verdictTold v ≡ rule against first
-      → Survived K n s targets places counts stopped ends hops wholes (tally.Refused why) ends hops wholes
+      → Survived K n s targets places counts fails ends hops wholes (tally.Refused why) ends hops wholes
   refused-survived {why} g e = not-survived (tally.Refused why) refl (refused-number why) (sym (ap verdictTold g) ∙ e)
 
   module _ (e : ruling 0 0 0 ≡ rule against first) where
@@ -110,13 +109,13 @@ module _ (K : Kind) (n s : ℕ) (targets places counts stopped ends hops wholes 
           wholes-room = columns .2;
         }
 
-    pub fan-survived : {w r : ℕ} {ends₁ hops₁ wholes₁ : List ℕ} → w ≡ width (K .mesh n) → Columns w targets places counts stopped ends hops wholes r ends₁ hops₁ wholes₁
-        → Survived K n s targets places counts stopped ends hops wholes (tally.Whole r) ends₁ hops₁ wholes₁
+    pub fan-survived : {w r : ℕ} {ends₁ hops₁ wholes₁ : List ℕ} → w ≡ width (K .mesh n) → Columns w targets places counts fails ends hops wholes r ends₁ hops₁ wholes₁
+        → Survived K n s targets places counts fails ends hops wholes (tally.Whole r) ends₁ hops₁ wholes₁
     fan-survived {w} wide c = record {
-      told = ap₂ tallied e (c .counted ∙ ap (λ (v : ℕ). count (whole v places counts stopped) (length targets)) wide ∙ sym (given _ 0));
+      told = ap₂ tallied e (c .counted ∙ ap (λ (v : ℕ). count (whole v places counts fails) (length targets)) wide ∙ sym (given _ 0));
       ended = c .ended ∙ sym (given _ ends);
       hopped = c .hopped ∙ sym (given _ hops);
-      marked = c .marked ∙ ap (λ (v : ℕ). ahead (length targets) (marks (whole v places counts stopped) (length targets)) wholes) wide ∙ sym (given _ wholes);
+      marked = c .marked ∙ ap (λ (v : ℕ). ahead (length targets) (marks (whole v places counts fails) (length targets)) wholes) wide ∙ sym (given _ wholes);
     }
       where
         given : {A : Type 0} (a b : A) → settled against first a b ≡ a

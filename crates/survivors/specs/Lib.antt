@@ -1,8 +1,6 @@
 -- What survivors tells and leaves, and what it means.
 pub mod Tally
-pub mod Promise
-pub mod Needs
-pub mod Columns
+pub mod Says
 pub mod Laws
 pub mod Unique
 pub mod Survive

@@ -1,7 +1,7 @@
 -- What a tally tells: the specification's number, path and place, as a verdict does, and how many paths are whole, which is 0 of a finding or a
 -- refusal.
 use Prim.Native.Nat.{ℕ}
-use Rattle.judge.specs.Verdict.{Ruling, verdictTold}
+use Rattle.judge.specs.Says.{Ruling, verdictTold}
 use Rattle.judge.specs.declared.Verdict.{Verdict}
 use Rattle.judge.specs.declared.Verdict.the-variants as verdict
 use Rattle.survivors.specs.declared.Tally.{Tally}

@@ -3,12 +3,13 @@
 use Prim.Native.Nat.{ℕ}
 use mathlib.Core.Path.{_≡_, refl, sym, ap, ap₂, _∙_}
 use mathlib.Core.List.{List}
+use Rattle.paths.specs.Whole.{Failed}
 use Rattle.mesh.specs.Kinds.{Kind}
 use Rattle.judge.specs.Unique.{verdict-unique}
 use Rattle.judge.specs.declared.Verdict.{Verdict}
 use Rattle.judge.specs.declared.Verdict.the-variants as verdict
 use Rattle.survivors.specs.Tally.{rulingOf, wholeOf, verdictOf, countOf, tallyTold}
-use Rattle.survivors.specs.Promise.{Survived}
+use Rattle.survivors.specs.Says.{Survived}
 use Rattle.survivors.specs.declared.Tally.{Tally}
 use Rattle.survivors.specs.declared.Tally.the-variants as tally
 
@@ -27,11 +28,11 @@ pub tally-unique : (a b : Tally) → tallyTold a ≡ tallyTold b → a ≡ b
 tally-unique a b e =
     sym (tally-back a) ∙ ap₂ tallyOf (verdict-unique (verdictOf a) (verdictOf b) (ap rulingOf e)) (ap wholeOf e) ∙ tally-back b
 
-pub survived-unique : (K : Kind) (n s : ℕ) (targets places counts stopped ends hops wholes : List ℕ) (a b : Tally) (ends₁ hops₁ wholes₁ ends₂ hops₂ wholes₂ : List ℕ)
-    → Survived K n s targets places counts stopped ends hops wholes a ends₁ hops₁ wholes₁
-    → Survived K n s targets places counts stopped ends hops wholes b ends₂ hops₂ wholes₂
+pub survived-unique : (K : Kind) (n s : ℕ) (targets places counts : List ℕ) (fails : Failed) (ends hops wholes : List ℕ) (a b : Tally) (ends₁ hops₁ wholes₁ ends₂ hops₂ wholes₂ : List ℕ)
+    → Survived K n s targets places counts fails ends hops wholes a ends₁ hops₁ wholes₁
+    → Survived K n s targets places counts fails ends hops wholes b ends₂ hops₂ wholes₂
     → (a ≡ b) × (ends₁ ≡ ends₂) × (hops₁ ≡ hops₂) × (wholes₁ ≡ wholes₂)
-survived-unique K n s targets places counts stopped ends hops wholes a b ends₁ hops₁ wholes₁ ends₂ hops₂ wholes₂ p q = (
+survived-unique K n s targets places counts fails ends hops wholes a b ends₁ hops₁ wholes₁ ends₂ hops₂ wholes₂ p q = (
   tally-unique a b (p .told ∙ sym (q .told)),
   p .ended ∙ sym (q .ended),
   p .hopped ∙ sym (q .hopped),

@@ -1,11 +1,10 @@
 // Survivors: which paths of a fan are whole where relays have stopped.
-mod columns;
-
 ghost use mathlib.Core.Path.{_≡_};
-ghost use Rattle.judge.specs.Verdict.{numberOf, pathOf, placeOf};
+ghost use Rattle.judge.specs.Says.{numberOf, pathOf, placeOf};
+ghost use Rattle.paths.specs.Whole.{failed};
 ghost use Rattle.mesh.specs.Kinds.{kindOf};
 ghost use Rattle.survivors.specs.Tally as specs;
-ghost use Rattle.survivors.specs.Promise as promise;
+ghost use Rattle.survivors.specs.Says as promise;
 use answers::Refusal;
 use judge::Finding;
 use judge::Verdict;
@@ -92,7 +91,7 @@ pub fn survivors(
     hops: &mut [u64],
     wholes: &mut [u64],
 ) -> Tally
-    ensures { λ r. ⌜ promise.Survived (kindOf (mesh .kind)) (mesh .size) source (now (targets .entry)) (now (places .entry)) (now (counts .entry)) (now (stopped .entry)) (now (ends .entry)) (now (hops .entry)) (now (wholes .entry)) r (now (ends .exit)) (now (hops .exit)) (now (wholes .exit)) ⌝ }
+    ensures { λ r. ⌜ promise.Survived (kindOf (mesh .kind)) (mesh .size) source (now (targets .entry)) (now (places .entry)) (now (counts .entry)) (failed (now (stopped .entry))) (now (ends .entry)) (now (hops .entry)) (now (wholes .entry)) r (now (ends .exit)) (now (hops .exit)) (now (wholes .exit)) ⌝ }
 {
     let lacking = few(targets.len(), ends.len(), hops.len(), wholes.len());
     let verdict = judge::judge_with(mesh, source, targets, places, counts, lacking);

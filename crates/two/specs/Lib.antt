@@ -1,17 +1,7 @@
 -- What the crate's contracts cite, and its laws.
-pub mod Two
 pub mod Next
-pub mod Seen
-pub mod Digits
-pub mod Parts
-pub mod Links
-pub mod Counts
-pub mod Near
-pub mod Moves
-pub mod Ends
 pub mod Steps
-pub mod Told
-pub mod Refusals
-pub mod Post
+pub mod Says
+pub mod Needs
 pub mod Cases
 pub mod Unique

@@ -7,7 +7,7 @@ use Rattle.answers.specs.Laws.{answer-unique}
 use Rattle.answers.specs.declared.Answer.the-variants as answer
 use Rattle.two.specs.declared.parts.Place.{Place}
 use Rattle.two.specs.declared.parts.Place.the-variants.{At, Refused}
-use Rattle.two.specs.Told.{placeTold}
+use Rattle.two.specs.Says.{placeTold}
 
 -- number and place alone
 bare : {A : Type 0} → Told A → Told ℕ

@@ -3,8 +3,8 @@ ghost use mathlib.Core.Path.{_≡_};
 ghost use Prim.Native.Nat.{ℕ, suc, _^_, _<_, _≤_};
 ghost use lib.ListN.{getD};
 ghost use Rattle.bits.specs.Bit.{bit};
-ghost use Rattle.two_fan.specs.Gates.{Passes, cand};
-ghost use Rattle.two_gate.specs.Post.{Tells, Denied, None, Small, Other, Search, Serves};
+ghost use Rattle.two_math.specs.Gates.{Passes, cand};
+ghost use Rattle.two_gate.specs.Says.{Tells, Denied, None, Small, Other, Search, Serves};
 
 // Whether a is b and c is d.
 fn both(a: u64, b: u64, c: u64, d: u64) -> bool

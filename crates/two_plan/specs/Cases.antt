@@ -7,12 +7,12 @@ use native.Mathlib.Omega.{arith}
 use lib.Count.{ones, onesIn}
 use Rattle.scan.specs.Scan.{seek, any, among}
 use Rattle.paths.specs.Fan.{filler, relay, hops, Fan}
-use Rattle.paths.specs.Finding.{finding, findingFrom, findingOf, unlinkedAt, seenAt, unfilledAt, unlinked, seen, on, unfilled}
+use Rattle.paths.specs.Finding.{findingBy, findingFrom, findingOf, unlinkedAt, seenAt, unfilledAt, unlinked, seen, twinned, on, unfilled}
 use Rattle.paths.specs.Forced.{Links, At, other, links, first, onward, arrived, meets}
 use Rattle.paths.specs.Judged.{clean-fan}
 use Rattle.paths.specs.Lists.{Lists}
 use Rattle.paths.specs.Read.{read, fan-lists}
-use Rattle.two.specs.Two.{joined, linked, two}
+use Rattle.two_parts.specs.Two.{joined, linked, two}
 
 abbrev targets : List ℕ
 targets = 4 ∷ 6 ∷ []
@@ -87,7 +87,7 @@ module _ {paths : ℕ → List ℕ} (f : Lists (two 1) 0 targets paths) where
       (first (paths 1) (f .chain 1 (omega arith)) (f .fresh 1 (omega arith)) (λ e. omega arith) (ring .of-0))
 
 pub case-h : CaseH
-unfolding finding findingFrom findingOf unlinkedAt seenAt unfilledAt unlinked seen on unfilled relay hops seek any among linked joined ones onesIn
+unfolding findingBy findingFrom findingOf unlinkedAt seenAt unfilledAt unlinked seen twinned on unfilled relay hops seek any among linked joined ones onesIn
 case-h = record {
   is = clean-fan (two 1) 0 targets thePlaces (3 ∷ 4 ∷ []) refl;
   only = λ places counts f. let l = fan-lists (two 1) 0 targets places counts f in (one l, another l);

@@ -14,12 +14,12 @@ use lib.Seq.{sets}
 use borrow.Author.Tests.{ltb-true, ltb-false}
 use Rattle.paths.specs.Lists.{Lists}
 use Rattle.requests.specs.Sound.{Sound}
-use Rattle.two.specs.Two.{two}
-use Rattle.two_fan.specs.Relays.{Relay}
-use Rattle.two_fan.specs.Assemble.{TwoFan}
-use Rattle.two_fan.specs.Sort.{Ask}
-use Rattle.two_fan.specs.Numbers.{numbers, block, slot, numbers-fan, ask-numbers}
-use Rattle.two_fan.specs.Ring.{at, ring-laid, reach, fars, at-home}
+use Rattle.two_parts.specs.Two.{two}
+use Rattle.two_math.specs.Relays.{Relay}
+use Rattle.two_math.specs.Assemble.{TwoFan}
+use Rattle.two_math.specs.Sort.{Ask}
+use Rattle.two_math.specs.Numbers.{numbers, block, slot, numbers-fan, ask-numbers}
+use Rattle.two_math.specs.Ring.{at, ring-laid, reach, fars, at-home}
 use Rattle.two_write.specs.Rows.{Ready, Drawn, Drawing, ready-drawing, drawing-more, drawing-drawn, drawn-has, lists-same}
 use Rattle.two_ring.specs.Way.{line, relayAt, spotOf, farOf, towards, stepOf, hopsOf, hops-few, way-line, way-length}
 

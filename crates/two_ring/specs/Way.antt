@@ -7,9 +7,9 @@ use mathlib.Core.List.{List, [], _∷_}
 use native.Mathlib.Numerals.{add-one}
 use native.Mathlib.Omega.{arith}
 use lib.ListN.{length, getD}
-use Rattle.two_fan.specs.Relays.{Relay}
-use Rattle.two_fan.specs.Numbers.{number, numbers, block, slot, number-back, length-numbers, block-below, slot-below}
-use Rattle.two_fan.specs.Ring.{at, at-mod, place, right, left, right-short, away, at-place, place-below}
+use Rattle.two_math.specs.Relays.{Relay}
+use Rattle.two_math.specs.Numbers.{number, numbers, block, slot, number-back, length-numbers, block-below, slot-below}
+use Rattle.two_math.specs.Ring.{at, at-mod, place, right, left, right-short, away, at-place, place-below}
 
 -- ---- the tables
 

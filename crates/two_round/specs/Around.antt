@@ -9,10 +9,10 @@ use lib.ListN.{length, set, length-append}
 use lib.Seq.{sets}
 use Rattle.bits.specs.Bit.{flip}
 use Rattle.bits.specs.Laws.{flip-lt}
-use Rattle.two_fan.specs.Relays.{Relay, inside, length-inside}
-use Rattle.two_fan.specs.Through.{Crosses}
-use Rattle.two_fan.specs.Numbers.{numbers, numbers-append, length-numbers}
-use Rattle.two_fan.specs.Round.{round, round-crosses}
+use Rattle.two_math.specs.Relays.{Relay, inside, length-inside}
+use Rattle.two_math.specs.Through.{Crosses}
+use Rattle.two_math.specs.Numbers.{numbers, numbers-append, length-numbers}
+use Rattle.two_math.specs.Round.{round, round-crosses}
 use Rattle.scan.specs.Runs.{sets-append}
 use Rattle.two_write.specs.Blocks.{Entered}
 

@@ -6,7 +6,7 @@ use mathlib.Core.List.{List, [], _∷_}
 use native.Mathlib.Omega.{arith}
 use lib.ListN.{length, getD}
 use borrow.Author.Count.{below-more}
-use Rattle.doors.specs.Doors.{In}
+use Rattle.cube_math.specs.Doors.{In}
 use Rattle.two_write.specs.Row.{hops}
 
 -- ---- one path

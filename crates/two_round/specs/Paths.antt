@@ -9,19 +9,19 @@ use native.Mathlib.Omega.{arith}
 use native.Mathlib.Decide.{ℕ-discrete}
 use lib.ListN.{length, getD, take, set, length-take}
 use lib.Seq.{sets, take-all}
+use Rattle.cube_math.specs.Masks.{at}
 use Rattle.bits.specs.Bit.{flip}
 use Rattle.bits.specs.Laws.{lt-or-le}
 use Rattle.paths.specs.Mesh.{width}
-use Rattle.doors.specs.Doors.{Doors}
-use Rattle.doors.specs.Plain.{bit-full}
+use Rattle.cube_math.specs.Doors.{Doors}
+use Rattle.cube_math.specs.Plain.{bit-full}
 use Rattle.two_write.specs.Row.{hops, hops-length}
-use Rattle.two_rows.specs.Rows.{at}
-use Rattle.two.specs.Two.{two, blockOf, slotOf}
-use Rattle.two_fan.specs.Relays.{Relay, inside, length-inside}
-use Rattle.two_fan.specs.Through.{Crosses}
-use Rattle.two_fan.specs.Assemble.{TwoFan}
-use Rattle.two_fan.specs.Numbers.{numbers, length-numbers, numbers-fan}
-use Rattle.two_fan.specs.Round.{round, when, when-yes, when-no, Heads, Upto, upto, heads-none, heads-swapped, round-fan}
+use Rattle.two_parts.specs.Two.{two, blockOf, slotOf}
+use Rattle.two_math.specs.Relays.{Relay, inside, length-inside}
+use Rattle.two_math.specs.Through.{Crosses}
+use Rattle.two_math.specs.Assemble.{TwoFan}
+use Rattle.two_math.specs.Numbers.{numbers, length-numbers, numbers-fan}
+use Rattle.two_math.specs.Round.{round, when, when-yes, when-no, Heads, Upto, upto, heads-none, heads-swapped, round-fan}
 use Rattle.two_write.specs.Slots.{Slotted}
 use Rattle.two_write.specs.Rows.{Drawing, Drawn, drawing-more, drawing-drawn, drawn, drawn-has, lists-same}
 use Rattle.two_round.specs.Around.{Rounded}

@@ -1,7 +1,8 @@
 -- What the round trip may be asked (`Trip`), what the cube planner is then asked (`trip-asked`), and what is settled before the paths are
 -- written (`Course`). Assumes nothing.
-use Prim.Native.Nat.{ℕ, _+_, _-_, _*_, _^_, _≤_, _<_}
+use Prim.Native.Nat.{ℕ, suc, _+_, _-_, _*_, _^_, _≤_, _<_}
 use mathlib.Core.Path.{_≡_, sym, _∙_, subst}
+use mathlib.Core.Logic.{⊎-elim}
 use mathlib.Core.List.{List}
 use native.Mathlib.Nat.{mul-le-mul-left}
 use native.Mathlib.Omega.{arith}
@@ -10,17 +11,20 @@ use lib.ListN.{length, getD, set, length-set}
 use lib.Pow.{pow-pos}
 use lib.Seq.{getD-set-same, getD-set-other}
 use borrow.Author.Count.{below-more}
+use Rattle.cube_math.specs.Masks.{at}
+use Rattle.bits.specs.Bit.{bit}
+use Rattle.bits.specs.Laws.{bit-none, clash, lt-or-le, ones-zero}
 use Rattle.paths.specs.Lists.{in-at}
 use Rattle.paths.specs.Mesh.{width}
-use Rattle.doors.specs.Doors.{Doors}
-use Rattle.doors.specs.Plain.{bit-full, full-below}
+use Rattle.cube_math.specs.Doors.{Doors}
+use Rattle.cube_math.specs.Plain.{bit-full, bit-high, full-below}
+use Rattle.cube_math.specs.Request.{Request}
 use Rattle.two_write.specs.Row.{hops}
 use Rattle.two_rows.specs.Rows as rows
-use Rattle.two_rows.specs.Rows.{at, Gives}
-use Rattle.two.specs.Two.{two, blockOf, slotOf}
-use Rattle.two_fan.specs.Sort.{Ask}
-use Rattle.two_fan.specs.Numbers.{ask-numbers}
-use Rattle.two_fan.specs.Whole.{round-request}
+use Rattle.two_rows.specs.Rows.{Gives}
+use Rattle.two_parts.specs.Two.{two, blockOf, slotOf}
+use Rattle.two_math.specs.Sort.{Ask}
+use Rattle.two_math.specs.Numbers.{ask-numbers}
 use Rattle.two_write.specs.Blocks.{walk-below}
 use Rattle.two_write.specs.Rows.{Ready}
 use Rattle.two_write.specs.Slots.{Below}
@@ -75,6 +79,17 @@ pub record Course (m s0 p0 w : ℕ) (to : List ℕ) (row n : ℕ) (g : List ℕ)
   pub row-in : row ≤ m
   pub cut : row < m → n ≤ length (hops g row)
   pub wide : 3 * m + 5 ≤ w
+
+-- what the cube of the source's block may be asked
+round-request : (m s0 p0 k : ℕ) (tb tp : ℕ → ℕ) → Ask m s0 p0 k tb tp → k ≡ suc m → ((j : ℕ) → j < k → tb j ≡ s0) → Request (2 ^ m - 1) p0 0 (2 ^ m - 1) tp
+round-request m s0 p0 k tb tp ask e inner =
+    let below : (j : ℕ) → bit j (2 ^ m - 1) ≡ 1 → j < k = λ j o. omega (arith, full-below m j o) in record {
+      inside = λ j o c ne. ⊎-elim (bit-full m c) (λ g. absurd (ne (bit-high m c (tp j) (ask .slots j (below j o)) g ∙ sym (bit-high m c p0 (ask .home-slot) g)))) (lt-or-le c m);
+      other = λ j o. ask .other j (below j o) (inner j (below j o));
+      differs = λ i j o p ne. ask .differ i j (below i o) (below j p) ne (inner i (below i o) ∙ sym (inner j (below j p)));
+      held = λ i o. absurd (clash (bit-none i) o);
+      room = omega (arith, ones-zero, ones-ones m);
+    }
 
 module _ {m s w : ℕ} {targets places counts to : List ℕ} (q : Trip m s w targets places counts) (t : Slots m targets to) (s0 p0 : ℕ) (es : s0 ≡ blockOf m s) (ep : p0 ≡ slotOf m s) where
   -- the targets as blocks and slots

@@ -6,18 +6,16 @@ use mathlib.Core.List.{List, [], _∷_}
 use native.Mathlib.Omega.{arith}
 use lib.ListN.{length, getD}
 use lib.Count.{ones}
+use Rattle.cube_math.specs.Masks.{at}
 use Rattle.bits.specs.Bit.{bit, flip}
 use Rattle.bits.specs.Laws.{bit-none, clash, flip-other, ones-clear}
-use Rattle.doors.specs.Doors.{Doors}
-use Rattle.doors.specs.Paths.{same-or}
-use Rattle.doors.specs.Choose.{cleared}
-use Rattle.doors.specs.Request.{Request, request-same, doors-same}
-use Rattle.grid.specs.Grid.{Sets, target, lone-target, hops-same, rows-apart}
-use Rattle.cube_plan.specs.Plan.{Asked, Planned}
+use Rattle.cube_math.specs.Doors.{Doors}
+use Rattle.cube_math.specs.Paths.{same-or}
+use Rattle.cube_math.specs.Choose.{cleared}
+use Rattle.cube_math.specs.Request.{Request, request-same, doors-same}
+use Rattle.cube_rows.specs.Grid.{Sets, target, lone-target, hops-same, rows-apart}
+use Rattle.cube_split.specs.Plan.{Asked, Planned}
 use Rattle.two_write.specs.Row.{hops}
-
-abbrev pub at : List ℕ → ℕ → ℕ
-at l j = getD l j 0
 
 -- every member is a row
 abbrev pub Few : ℕ → Type 0

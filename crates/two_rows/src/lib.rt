@@ -12,7 +12,7 @@ fn start_rows(set: u64, to: [u64; 16], grid: &mut [u64])
     let mut todo = set;
     while todo != 0 {
         let j = bits::lowest(todo);
-        grid::start(grid, 35, j as usize, to[j as usize]);
+        cube_rows::start(grid, 35, j as usize, to[j as usize]);
         todo = bits::flip(todo, j);
     }
 }
@@ -23,5 +23,5 @@ pub fn plan_rows(free: u64, s: u64, shut: u64, set: u64, to: [u64; 16], grid: &m
     ensures { λ _. ⌜ Gives free s shut set to (now (grid .exit)) ⌝ }
 {
     start_rows(set, to, grid);
-    cube_plan::plan(free, s, shut, set, 35, grid);
+    cube_split::plan(free, s, shut, set, 35, grid);
 }

@@ -14,13 +14,13 @@ use lib.Pow.{pow-mono, pow-add}
 use Rattle.bits.specs.Bit.{bit, flip, Lowest}
 use Rattle.bits.specs.Laws.{flip-lt, xor-zero-eq}
 use Rattle.paths.specs.Lists.{in-at}
-use Rattle.doors.specs.Doors.{In, Walk}
-use Rattle.doors.specs.Paths.{flip-moves}
-use Rattle.doors.specs.Plain.{full-below}
-use Rattle.two_fan.specs.Relays.{Relay, inside, length-inside}
-use Rattle.two_fan.specs.Through.{Stroll, Crosses, crosses-short}
-use Rattle.two_fan.specs.Numbers.{numbers, numbers-append, length-numbers}
-use Rattle.two_fan.specs.Loops.{crosses-none, crosses-more, walk-hop, door-of}
+use Rattle.cube_math.specs.Doors.{In, Walk}
+use Rattle.cube_math.specs.Paths.{flip-moves}
+use Rattle.cube_math.specs.Plain.{full-below}
+use Rattle.two_math.specs.Relays.{Relay, inside, length-inside}
+use Rattle.two_math.specs.Through.{Stroll, Crosses, crosses-short}
+use Rattle.two_math.specs.Numbers.{numbers, numbers-append, length-numbers}
+use Rattle.two_math.specs.Loops.{crosses-none, crosses-more, walk-hop, door-of}
 use Rattle.scan.specs.Runs.{sets-append}
 use Rattle.two_write.specs.Walked.{relays, relays-numbers, Walked}
 use Rattle.two_write.specs.Row.{hops}

@@ -5,7 +5,7 @@ use mathlib.Core.List.{List}
 use native.Mathlib.Omega.{arith}
 use lib.ListN.{length, getD}
 use Rattle.paths.specs.Lists.{ahead-at}
-use Rattle.grid.specs.Grid as grid
+use Rattle.cube_rows.specs.Grid as grid
 
 -- the path of row j
 abbrev pub hops : List ℕ → ℕ → List ℕ

@@ -6,8 +6,8 @@ use native.Mathlib.Numerals.{add-one}
 use native.Mathlib.Omega.{arith}
 use lib.ListN.{length, getD, take, set, length-set, length-take}
 use lib.Seq.{sets, take-suc, take-all}
-use Rattle.two_fan.specs.Relays.{inside}
-use Rattle.two_fan.specs.Numbers.{numbers}
+use Rattle.two_math.specs.Relays.{inside}
+use Rattle.two_math.specs.Numbers.{numbers}
 use Rattle.scan.specs.Runs.{sets-append}
 use Rattle.two_write.specs.Walked.{relays, relays-numbers, relays-append, relays-length}
 

@@ -12,12 +12,12 @@ use lib.Count.{ones, ones-ones}
 use Rattle.scan.specs.Runs.{sets-append}
 use Rattle.bits.specs.Bit.{bit, flip, Lowest}
 use Rattle.bits.specs.Laws.{lt-or-le, ones-none, xor-zero-eq, flip-lt}
-use Rattle.doors.specs.Plain.{bit-high, bit-full}
-use Rattle.doors.specs.Single.{rank, rank-le, rank-less, differs-bit}
-use Rattle.two_fan.specs.Relays.{inside}
-use Rattle.two_fan.specs.Numbers.{numbers}
-use Rattle.two_fan.specs.Through.{Stroll}
-use Rattle.two_fan.specs.Loops.{Strolling, strolling-none, strolling-more, strolling-done}
+use Rattle.cube_math.specs.Plain.{bit-high, bit-full}
+use Rattle.cube_math.specs.Single.{rank, rank-le, rank-less, differs-bit}
+use Rattle.two_math.specs.Relays.{inside}
+use Rattle.two_math.specs.Numbers.{numbers}
+use Rattle.two_math.specs.Through.{Stroll}
+use Rattle.two_math.specs.Loops.{Strolling, strolling-none, strolling-more, strolling-done}
 
 -- the relays of the slots l of the block whose first relay is `base`
 abbrev pub relays : ℕ → List ℕ → List ℕ

@@ -9,7 +9,7 @@ use Rattle.mesh.specs.Kinds.{kindOf, meshOf}
 use Rattle.scan.specs.Scan.{pick}
 use Rattle.mesh.specs.Says.{short}
 use Rattle.mesh.specs.Requests.{Fine, checked-fine, request-refused, request-short, request-granted, neither-wanting, room-enough}
-use Rattle.judge.specs.Verdict.{rule, searchOf, judgeTold}
+use Rattle.judge.specs.Says.{rule, searchOf, judgeTold}
 use borrow.Author.Needs.{needs}
 use Rattle.judge.proofs.judge_with.Statement.{statement}
 use Rattle.judge.proofs.judge_with.Tie as tie
@@ -73,16 +73,20 @@ returns-2 c =
     (request-short (kindOf (s .args .mesh .kind)) (s .args .mesh .size) (s .args .source) (s .args .targets .now) (q .request .ensures) (e .enum-told .given .1)
     (c .before .wanting .ensures) (c .if1 .taken))
 
+places-in-requires : tie.Need-places-in-requires
+places-in-requires c κs = fine (c .before .before) .known
+
 first-finding-requires : tie.Need-first-finding-requires
 first-finding-requires c κs =
-    let e = c .before .before in
+    let g = c .before in
+    let e = g .before .before in
     let a = at (e .before .before) .args in
     let m = meshOf (a .mesh .kind) (a .mesh .size) in
     let k = length (a .targets .now) in
     let places = length (a .places .now) in
     let counts = length (a .counts .now) in
-    let enough = room-enough m k places counts (neither-wanting (a .lacking) (short m k places counts) (c .before .wanting .ensures) (c .if1 .left) .1) in
-    record { known = fine e .known; room = enough .0; counted = enough .1 }
+    let enough = room-enough m k places counts (neither-wanting (a .lacking) (short m k places counts) (g .before .wanting .ensures) (g .if1 .left) .1) in
+    record { ruled = record { known = fine e .known; wide = c .places-in .ensures }; room = rw (c .places-in .ensures) (enough .0); counted = enough .1 }
 
 enum-told-2 : tie.Need-enum-told-2
 enum-told-2 c = search needs
@@ -93,12 +97,12 @@ enum-known-ended c = search needs
 returns-3 : tie.Need-returns-3
 returns-3 c =
     let g = c .before .before in
-    ap (rule none) (sym (ap searchOf (c .enum-told2 .given .1)) ∙ g .first-finding .ensures) ∙ granted (g .before)
+    ap (rule none) (sym (ap searchOf (c .enum-told2 .given .1)) ∙ g .first-finding .ensures) ∙ granted (g .before .before)
 
 returns-4 : tie.Need-returns-4
 returns-4 c =
     let g = c .before .before .before in
-    ap (rule none) (sym (ap searchOf (c .before .ended .given .1)) ∙ g .first-finding .ensures) ∙ granted (g .before)
+    ap (rule none) (sym (ap searchOf (c .before .ended .given .1)) ∙ g .first-finding .ensures) ∙ granted (g .before .before)
 
 pub judge-with-spec : {M : Type 1} → statement M
 judge-with-spec =
@@ -110,6 +114,7 @@ judge-with-spec =
     enum-told
     wanting-requires
     returns-2
+    places-in-requires
     first-finding-requires
     enum-told-2
     enum-known-ended

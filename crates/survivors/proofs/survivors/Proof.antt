@@ -1,8 +1,9 @@
 -- `survivors::survivors` meets its contract: what the judge finds, else the columns of the fan. Assumes nothing.
 use mathlib.Core.Path.{_≡_, sym, ap, _∙_}
+use Rattle.paths.specs.Whole.{failed}
 use Rattle.mesh.specs.Kinds.{kindOf}
-use Rattle.judge.specs.Verdict.{Ruling, ruling, verdictTold, judgeTold}
-use Rattle.survivors.specs.Promise.{lacking}
+use Rattle.judge.specs.Says.{Ruling, ruling, verdictTold, judgeTold}
+use Rattle.survivors.specs.Says.{lacking}
 use Rattle.survivors.specs.Laws.{found-survived, refused-survived, judged-known, fan-ready, fan-survived}
 use borrow.Author.Needs.{needs}
 use Rattle.survivors.proofs.survivors.Statement.{statement}
@@ -37,14 +38,14 @@ enum-told c = search needs
 places-in-requires : tie.Need-places-in-requires
 places-in-requires c κs =
     let a = at (c .before .before) .args in
-    judged-known (kindOf (a .mesh .kind)) (a .mesh .size) (a .source) (a .targets .now) (a .places .now) (a .counts .now) (a .stopped .now) (a .ends .now) (a .hops .now) (a .wholes .now)
+    judged-known (kindOf (a .mesh .kind)) (a .mesh .size) (a .source) (a .targets .now) (a .places .now) (a .counts .now) (failed (a .stopped .now)) (a .ends .now) (a .hops .now) (a .wholes .now)
     (fan c) .known
 
 fill-requires : tie.Need-fill-requires
 fill-requires c κs =
     let p = c .before .before .before in
     let a = at (p .before .before .before) .args in
-    fan-ready (kindOf (a .mesh .kind)) (a .mesh .size) (a .source) (a .targets .now) (a .places .now) (a .counts .now) (a .stopped .now) (a .ends .now) (a .hops .now) (a .wholes .now)
+    fan-ready (kindOf (a .mesh .kind)) (a .mesh .size) (a .source) (a .targets .now) (a .places .now) (a .counts .now) (failed (a .stopped .now)) (a .ends .now) (a .hops .now) (a .wholes .now)
     (fan (p .before)) (p .places-in .ensures)
 
 enum-known-verdict : tie.Need-enum-known-verdict
@@ -67,21 +68,21 @@ returns c =
     let f = c .before .before .before .before .before .before in
     let p = f .before .before .before .before in
     let a = at (p .before .before .before) .args in
-    fan-survived (kindOf (a .mesh .kind)) (a .mesh .size) (a .source) (a .targets .now) (a .places .now) (a .counts .now) (a .stopped .now) (a .ends .now) (a .hops .now) (a .wholes .now)
+    fan-survived (kindOf (a .mesh .kind)) (a .mesh .size) (a .source) (a .targets .now) (a .places .now) (a .counts .now) (failed (a .stopped .now)) (a .ends .now) (a .hops .now) (a .wholes .now)
     (fan (p .before)) (p .places-in .ensures) (f .fill .ensures)
 
 returns-2 : tie.Need-returns-2
 returns-2 c =
     let j = c .before .before .before in
     let a = at j .args in
-    found-survived (kindOf (a .mesh .kind)) (a .mesh .size) (a .source) (a .targets .now) (a .places .now) (a .counts .now) (a .stopped .now) (a .ends .now) (a .hops .now) (a .wholes .now)
+    found-survived (kindOf (a .mesh .kind)) (a .mesh .size) (a .source) (a .targets .now) (a .places .now) (a .counts .now) (failed (a .stopped .now)) (a .ends .now) (a .hops .now) (a .wholes .now)
     (c .before .verdict .given .1) (told j)
 
 returns-3 : tie.Need-returns-3
 returns-3 c =
     let j = c .before .before .before in
     let a = at j .args in
-    refused-survived (kindOf (a .mesh .kind)) (a .mesh .size) (a .source) (a .targets .now) (a .places .now) (a .counts .now) (a .stopped .now) (a .ends .now) (a .hops .now) (a .wholes .now)
+    refused-survived (kindOf (a .mesh .kind)) (a .mesh .size) (a .source) (a .targets .now) (a .places .now) (a .counts .now) (failed (a .stopped .now)) (a .ends .now) (a .hops .now) (a .wholes .now)
     (c .before .verdict2 .given .1) (told j)
 
 pub survivors-spec : {M : Type 1} → statement M

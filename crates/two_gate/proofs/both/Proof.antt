@@ -1,6 +1,6 @@
 use mathlib.Core.Path.{_≡_}
 use borrow.Author.Tests.{eqb-true, eqb-false}
-use Rattle.two_gate.specs.Post.{tells-no, tells-yes, tells-same}
+use Rattle.two_gate.specs.Says.{tells-no, tells-yes, tells-same}
 use Rattle.two_gate.proofs.both.Statement.{statement}
 use Rattle.two_gate.proofs.both.Tie as tie
 use Rattle.two_gate.proofs.both.Reads as reads

@@ -5,7 +5,7 @@ use native.Mathlib.Omega.{arith}
 use lib.Pow.{shl-exact}
 use lib.Bits.{bitXor}
 use Rattle.bits.specs.Bit.{flip}
-use Rattle.two_fan.specs.Gates.{cand, cand-last, cand-other}
+use Rattle.two_math.specs.Gates.{cand, cand-last, cand-other}
 use borrow.Author.Needs.{needs}
 use Rattle.two_gate.proofs.candidate.Statement.{statement}
 use Rattle.two_gate.proofs.candidate.Tie as tie

@@ -1,5 +1,5 @@
 use mathlib.Core.Path.{_≡_}
-use Rattle.two_gate.specs.Post.{tells-no, tells-other}
+use Rattle.two_gate.specs.Says.{tells-no, tells-other}
 use borrow.Author.Needs.{needs}
 use Rattle.two_gate.proofs.denied_by.Statement.{statement}
 use Rattle.two_gate.proofs.denied_by.Tie as tie

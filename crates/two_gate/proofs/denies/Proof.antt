@@ -1,6 +1,6 @@
 use mathlib.Core.Path.{_≡_, sym, _∙_}
 use mathlib.Core.Logic.{_⊎_, inl, inr}
-use Rattle.two_gate.specs.Post.{tells-no, tells-yes, tells-same, Denied, denied-last, never}
+use Rattle.two_gate.specs.Says.{tells-no, tells-yes, tells-same, Denied, denied-last, never}
 use borrow.Author.Needs.{needs}
 use Rattle.two_gate.proofs.denies.Statement.{statement}
 use Rattle.two_gate.proofs.denies.Tie as tie

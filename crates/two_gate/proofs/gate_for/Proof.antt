@@ -4,8 +4,8 @@ use mathlib.Core.List.{List}
 use native.Mathlib.Omega.{arith}
 use native.Mathlib.Numerals.{add-one}
 use lib.ListN.{getD}
-use Rattle.two_fan.specs.Gates.{cand, cand-near, Near}
-use Rattle.two_gate.specs.Post.{Search, Serves, Other, None, none-more, serves, some-serves, small, cand-small}
+use Rattle.two_math.specs.Gates.{cand, cand-near, Near}
+use Rattle.two_gate.specs.Says.{Search, Serves, Other, None, none-more, serves, some-serves, small, cand-small}
 use borrow.Author.Needs.{needs}
 use Rattle.two_gate.proofs.gate_for.Statement.{statement}
 use Rattle.two_gate.proofs.gate_for.Tie as tie

@@ -2,7 +2,7 @@ use Prim.Native.Nat.{ℕ, _+_, _-_, _≤_, _<_}
 use mathlib.Core.Path.{_≡_, subst}
 use mathlib.Core.List.{List}
 use native.Mathlib.Omega.{arith}
-use Rattle.two_gate.specs.Post.{tells-no, tells-yes, Other, None, none-more}
+use Rattle.two_gate.specs.Says.{tells-no, tells-yes, Other, None, none-more}
 use borrow.Author.Needs.{needs}
 use Rattle.two_gate.proofs.passes.Statement.{statement}
 use Rattle.two_gate.proofs.passes.Tie as tie

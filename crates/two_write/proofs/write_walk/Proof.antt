@@ -3,7 +3,7 @@ use mathlib.Core.Path.{_≡_}
 use mathlib.Core.List.{List}
 use native.Mathlib.Omega.{arith}
 use lib.ListN.{length, length-set}
-use Rattle.doors.specs.Single.{rank}
+use Rattle.cube_math.specs.Single.{rank}
 use Rattle.two_write.specs.Walked.{Going, going-none, going-left, going-more, going-less, going-done, going-room, next-below}
 use borrow.Author.Needs.{needs}
 use Rattle.two_write.proofs.write_walk.Statement.{statement}

@@ -1,22 +1,25 @@
 -- `cube::plain::route` meets its contract: what stands against it, room last, else the walk. Assumes nothing.
 use Prim.Native.Nat.{ℕ, _^_}
 use mathlib.Core.Path.{ap, _∙_}
-use mathlib.Core.Bool.{Bool, false, not}
-use mathlib.Core.List.{List}
+use mathlib.Core.Bool.{Bool}
+use mathlib.Core.List.{List, _++_}
 use native.Mathlib.Omega.{arith}
 use borrow.Author.Needs.{needs}
 use lib.Dec.{leb}
 use lib.ListN.{length}
 use borrow.Author.Tests.{le-leb, lt-leb}
 use Rattle.answers.specs.Pairs.{lent-refused, lent-short, lent-fine}
+use Rattle.answers.specs.Order.{Fault, pairFaults}
 use Rattle.answers.specs.Told.{told}
-use Rattle.cube.specs.Cube.{known}
 use Rattle.cube.specs.Route.{hops}
-use Rattle.cube.specs.Says.{routed}
+use Rattle.cube.specs.Says.{sizeFaultsIn, routed}
 use Rattle.cube.proofs.plain.route.Statement.{statement}
 use Rattle.cube.proofs.plain.route.Tie as tie
 
--- whether room is wanted
+-- the faults of a pair, and whether room is wanted besides
+abbrev pair : ℕ → ℕ → ℕ → List Fault
+pair n s t = sizeFaultsIn n ++ pairFaults (2 ^ n) s t
+
 abbrev short : ℕ → ℕ → List ℕ → Bool
 short s t out = leb (length out) (hops s t)
 
@@ -31,8 +34,8 @@ returns c =
     let p = c .before .before .before in
     let a = p .before .before .args in
     let out = a .out .now in
-    lent-refused (not (known (a .size .0))) false (2 ^ a .size .0) (a .source) (a .target) (short (a .source) (a .target) out)
-    (hops (a .source) (a .target)) out (routed (a .source) (a .target) out) (c .before .checked .given .1) (p .pair .ensures)
+    lent-refused (pair (a .size .0) (a .source) (a .target)) (short (a .source) (a .target) out)
+    (hops (a .source) (a .target)) out (routed (a .source) (a .target) out) (p .pair .ensures) (c .before .checked .given .1)
 
 enum-told : tie.Need-enum-told
 enum-told c = search needs
@@ -45,8 +48,8 @@ returns-2 c =
     let p = c .before .before .before .before in
     let a = p .before .before .args in
     let out = a .out .now in
-    lent-short (not (known (a .size .0))) false (2 ^ a .size .0) (a .source) (a .target) (short (a .source) (a .target) out)
-    (hops (a .source) (a .target)) out (routed (a .source) (a .target) out) (c .before .before .enum-told .given .1) (p .pair .ensures)
+    lent-short (pair (a .size .0) (a .source) (a .target)) (short (a .source) (a .target) out)
+    (hops (a .source) (a .target)) out (routed (a .source) (a .target) out) (p .pair .ensures) (c .before .before .enum-told .given .1)
     (le-leb (length out) (hops (a .source) (a .target)) (omega arith))
 
 walk-requires : tie.Need-walk-requires
@@ -61,8 +64,8 @@ returns-3 c =
     let p = w .before .before .before .before .before .before in
     let a = p .before .before .args in
     let out = a .out .now in
-    let r = lent-fine (not (known (a .size .0))) false (2 ^ a .size .0) (a .source) (a .target) (short (a .source) (a .target) out)
-    (hops (a .source) (a .target)) out (routed (a .source) (a .target) out) (w .before .before .before .before .enum-told .given .1) (p .pair .ensures)
+    let r = lent-fine (pair (a .size .0) (a .source) (a .target)) (short (a .source) (a .target) out)
+    (hops (a .source) (a .target)) out (routed (a .source) (a .target) out) (p .pair .ensures) (w .before .before .before .before .enum-told .given .1)
     (lt-leb (length out) (hops (a .source) (a .target)) (omega arith)) in
     (ap (told 0 0) (w .walk .ensures .0) ∙ r .0, w .walk .ensures .1 ∙ r .1)
 

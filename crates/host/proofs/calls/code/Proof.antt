@@ -1,6 +1,6 @@
 -- `host::calls::code` meets its contract: number times 256 and place. Assumes nothing.
 use native.Mathlib.Omega.{arith}
-use Rattle.answers.specs.Laws.{number-within}
+use Rattle.answers.specs.Laws.{number-few}
 use borrow.Author.Needs.{needs}
 use Rattle.host.proofs.calls.code.Statement.{statement}
 use Rattle.host.proofs.calls.code.Tie as tie
@@ -13,13 +13,13 @@ number-requires : tie.Need-number-requires
 number-requires c κs = search needs
 
 mul-result : tie.Need-mul-result
-mul-result c = omega (arith, number-within (c .before .args .why) .1, c .number .ensures)
+mul-result c = omega (arith, number-few (c .before .args .why), c .number .ensures)
 
 place-requires : tie.Need-place-requires
 place-requires c κs = search needs
 
 add-result : tie.Need-add-result
-add-result c = omega (arith, number-within (c .before .before .args .why) .1, c .before .number .ensures, c .place .ensures, c .before .before .pre)
+add-result c = omega (arith, number-few (c .before .before .args .why), c .before .number .ensures, c .place .ensures, c .before .before .pre)
 
 returns : tie.Need-returns
 returns c = omega (arith, c .before .number .ensures, c .place .ensures)

@@ -2,26 +2,23 @@
 use Prim.Native.Nat.{_-_}
 use native.Mathlib.Omega.{arith}
 use lib.ListN.{length}
-use Rattle.mesh.specs.Kinds.{meshOf}
+use Rattle.judge_rows.specs.Rules.{rulesOf}
 use Rattle.judge.specs.Search.{Searched, search-starts, search-room, search-goes-on, search-finds, search-ends}
 use borrow.Author.Needs.{needs}
 use Rattle.judge.proofs.found.first_finding.Statement.{statement}
 use Rattle.judge.proofs.found.first_finding.Tie as tie
 
 abbrev Inv-loop : tie.InvT-loop
-Inv-loop mesh source targets places counts w i₀ i = Searched (meshOf (mesh .kind) (mesh .size)) source targets places counts w i
+Inv-loop rules source targets places counts i₀ i = Searched (rulesOf rules) source targets places counts (rules .width) i
 
 abbrev μ-loop : tie.MeasureT-loop
-μ-loop mesh source targets places counts w i₀ i = length targets - i
-
-places-in-requires : tie.Need-places-in-requires Inv-loop μ-loop
-places-in-requires c κs = c .before .before .before .pre .known
+μ-loop rules source targets places counts i₀ i = length targets - i
 
 loop-holds : tie.Need-loop-holds Inv-loop μ-loop
 loop-holds c =
-    let s = c .before .before .before .before in
+    let s = c .before .before .before in
     let a = s .args in
-    search-starts (meshOf (a .mesh .kind) (a .mesh .size)) (a .source) (a .targets .now) (a .places .now) (a .counts .now) (c .places-in .ensures) (s .pre .room) (s .pre .counted)
+    search-starts (rulesOf (a .rules)) (a .source) (a .targets .now) (a .places .now) (a .counts .now) (s .pre .ruled .wide) (s .pre .room) (s .pre .counted)
 
 mul-look : tie.Need-mul-look Inv-loop μ-loop
 mul-look c = search needs
@@ -32,13 +29,13 @@ shared-slice-read-look c = search needs
 look-requires : tie.Need-look-requires Inv-loop μ-loop
 look-requires c κs =
     let l = c .before .before in
-    let s = l .before .before .before .before .before in
+    let s = l .before .before .before .before in
     let v = l .loop .inv in
     record {
-      mesh = record { known = s .pre .known; wide = v .wide };
+      ruled = s .pre .ruled;
       held = v .held;
       counted = omega (arith, v .counted);
-      room = search-room (meshOf (s .args .mesh .kind) (s .args .mesh .size)) (s .args .source) (s .args .targets .now) (s .args .places .now) (s .args .counts .now) v (c .before .loop-test .taken);
+      room = search-room (rulesOf (s .args .rules)) (s .args .source) (s .args .targets .now) (s .args .places .now) (s .args .counts .now) v (c .before .loop-test .taken);
     }
 
 enum-known-looked : tie.Need-enum-known-looked Inv-loop μ-loop
@@ -48,8 +45,8 @@ returns : tie.Need-returns Inv-loop μ-loop
 returns c =
     let k = c .before .before .before in
     let l = k .before .before .before in
-    let a = l .before .before .before .before .before .args in
-    search-finds (meshOf (a .mesh .kind) (a .mesh .size)) (a .source) (a .targets .now) (a .places .now) (a .counts .now) (l .loop .inv) (k .before .before .loop-test .taken)
+    let a = l .before .before .before .before .args in
+    search-finds (rulesOf (a .rules)) (a .source) (a .targets .now) (a .places .now) (a .counts .now) (l .loop .inv) (k .before .before .loop-test .taken)
     (c .before .looked .given .1) (k .look .ensures)
 
 enum-told : tie.Need-enum-told Inv-loop μ-loop
@@ -65,15 +62,15 @@ loop-again : tie.Need-loop-again Inv-loop μ-loop
 loop-again c =
     let k = c .before .before in
     let l = k .before .before .before in
-    let a = l .before .before .before .before .before .args in
-    search-goes-on (meshOf (a .mesh .kind) (a .mesh .size)) (a .source) (a .targets .now) (a .places .now) (a .counts .now) (l .loop .inv) (k .before .before .loop-test .taken)
+    let a = l .before .before .before .before .args in
+    search-goes-on (rulesOf (a .rules)) (a .source) (a .targets .now) (a .places .now) (a .counts .now) (l .loop .inv) (k .before .before .loop-test .taken)
     (c .enum-told .given .1) (k .look .ensures)
 
 returns-2 : tie.Need-returns-2 Inv-loop μ-loop
 returns-2 c =
     let l = c .before in
-    let a = l .before .before .before .before .before .args in
-    search-ends (meshOf (a .mesh .kind) (a .mesh .size)) (a .source) (a .targets .now) (a .places .now) (a .counts .now) (l .loop .inv) (c .loop-test .left)
+    let a = l .before .before .before .before .args in
+    search-ends (rulesOf (a .rules)) (a .source) (a .targets .now) (a .places .now) (a .counts .now) (l .loop .inv) (c .loop-test .left)
 
 pub first-finding-spec : {M : Type 1} → statement M
 first-finding-spec =
@@ -81,7 +78,6 @@ first-finding-spec =
     (tie.spec
     Inv-loop
     μ-loop
-    places-in-requires
     loop-holds
     mul-look
     shared-slice-read-look

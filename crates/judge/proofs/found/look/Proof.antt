@@ -1,8 +1,8 @@
 -- `judge::found::look` meets its contract: each finding is told where no test before it held. Assumes nothing.
-use mathlib.Core.Path.{_≡_, sym, ap, _∙_}
+use mathlib.Core.Path.{_≡_, ap, _∙_}
 use Rattle.scan.specs.Scan.{spotOf}
 use Rattle.paths.specs.Fan.{hops}
-use Rattle.mesh.specs.Kinds.{meshOf}
+use Rattle.judge_rows.specs.Rules.{rulesOf}
 use Rattle.judge.specs.Looks.{Look, from20, from21, from22, from23, from24, from25, too-long, not-long, wrong-start, right-start, wrong-link, right-links, wrong-end, right-end, seen-again, none-seen, not-filled, all-filled}
 use borrow.Author.Needs.{needs}
 use Rattle.judge.proofs.found.look.Statement.{statement}
@@ -10,14 +10,14 @@ use Rattle.judge.proofs.found.look.Tie as tie
 
 abbrev look : tie.Start → Look
 look s = let a = s .args in record {
-  m = meshOf (a .mesh .kind) (a .mesh .size);
-  w = a .w;
+  r = rulesOf (a .rules);
+  w = a .rules .width;
   s = a .source;
   t = a .target;
   places = a .places .now;
   counts = a .counts .now;
   i = a .i;
-  wide = s .pre .mesh .wide;
+  wide = s .pre .ruled .wide;
 }
 
 -- where the function began, seen from each place at which a test has failed

@@ -1,6 +1,5 @@
 -- `mesh::pairs::distance` meets its contract: each kind answers for its own pairs. Assumes nothing.
 use mathlib.Core.Path.{_∙_}
-use Rattle.hops.specs.Told as hops
 use Rattle.mesh.specs.Kinds.{Kind}
 use Rattle.mesh.specs.Laws.{as-cube, as-two, as-other, cube-distance}
 use Rattle.mesh.specs.Says.{distanceTold}
@@ -21,7 +20,6 @@ distance-requires : tie.Need-distance-requires
 distance-requires c κs = search needs
 
 returns-2 : tie.Need-returns-2
-unfolding hops.distanceTold hops.faults
 returns-2 c =
     let a = c .before .before .before .before .before .args in
     c .distance .ensures ∙ as-two (λ (K : Kind). distanceTold K (a .mesh .size) (a .source) (a .target)) (c .before .before .before .if1 .left) (c .before .if2 .taken)

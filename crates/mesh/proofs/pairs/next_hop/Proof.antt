@@ -1,6 +1,5 @@
 -- `mesh::pairs::next_hop` meets its contract: each kind answers for its own pairs. Assumes nothing.
 use mathlib.Core.Path.{_∙_}
-use Rattle.two.specs.Told as two
 use Rattle.mesh.specs.Kinds.{Kind}
 use Rattle.mesh.specs.Laws.{as-cube, as-two, as-other}
 use Rattle.mesh.specs.Says.{nextTold}
@@ -20,7 +19,6 @@ next-hop-requires-2 : tie.Need-next-hop-requires-2
 next-hop-requires-2 c κs = search needs
 
 returns-2 : tie.Need-returns-2
-unfolding two.nextTold two.faults
 returns-2 c =
     let a = c .before .before .before .before .before .args in
     c .next-hop2 .ensures ∙ as-two (λ (K : Kind). nextTold K (a .mesh .size) (a .source) (a .target)) (c .before .before .before .if1 .left) (c .before .if2 .taken)

@@ -1,6 +1,5 @@
 -- `mesh::pairs::route` meets its contract: each kind writes its own route. Assumes nothing.
 use mathlib.Core.Path.{_∙_}
-use Rattle.two.specs.Told as two
 use Rattle.mesh.specs.Kinds.{Kind}
 use Rattle.mesh.specs.Laws.{as-cube, as-two, as-other}
 use Rattle.mesh.specs.Says.{routeTold, routeLeaves}
@@ -30,7 +29,6 @@ same-length-2 : tie.Need-same-length-2
 same-length-2 c = search needs
 
 returns-2 : tie.Need-returns-2
-unfolding two.routeTold two.routeLeaves two.faults
 returns-2 c =
     let r = c .before .before in
     let i = r .before .before in

@@ -1,7 +1,7 @@
 -- `two::links::linked_parts` meets its contract. Assumes nothing.
 use mathlib.Core.Path.{_∙_, ap₂}
 use borrow.Author.Needs.{needs}
-use Rattle.two.specs.Told.{linkedTold}
+use Rattle.two.specs.Says.{linkedTold}
 use Rattle.two.proofs.links.linked_parts.Statement.{statement}
 use Rattle.two.proofs.links.linked_parts.Tie as tie
 

@@ -1,10 +1,9 @@
--- `two::parts::checked` meets its contract. Assumes nothing.
-use mathlib.Core.Path.{sym, _∙_}
-use mathlib.Core.Bool.{false}
+-- `two::parts::checked` meets its contract: each fault is told where none before it stands. Assumes nothing.
 use borrow.Author.Needs.{needs}
 use borrow.Author.Tests.{not-true, not-false}
-use Rattle.two.specs.Parts.{few}
-use Rattle.two.specs.Refusals.{faults-unknown, faults-source, faults-target, faults-room}
+use Rattle.answers.specs.Pairs.{pair-unknown, pair-source, pair-target, pair-fine}
+use Rattle.two_parts.specs.Two.{relays}
+use Rattle.two_parts.specs.Parts.{few}
 use Rattle.two.proofs.parts.checked.Statement.{statement}
 use Rattle.two.proofs.parts.checked.Tie as tie
 
@@ -12,31 +11,34 @@ known-requires : tie.Need-known-requires
 known-requires c κs = search needs
 
 returns : tie.Need-returns
-returns c = let a = c .before .before .args in sym (faults-unknown (a .order .0) (a .source) (a .target) false (sym (c .before .known .ensures) ∙ not-true (c .before .known .result) (c .if1 .taken)))
+returns c =
+    let k = c .before in
+    let a = k .before .args in
+    pair-unknown (relays (a .order .0)) (a .source) (a .target) (k .known .ensures) (not-true (k .known .result) (c .if1 .taken))
 
 relays-in-requires : tie.Need-relays-in-requires
 relays-in-requires c κs = few (c .before .before .args .order .0) (c .before .known .ensures) (not-false (c .before .known .result) (c .if1 .left))
 
 returns-2 : tie.Need-returns-2
 returns-2 c =
-    let a = c .before .before .before .before .args in
-    sym (faults-source (a .order .0) (a .source) (a .target) false (sym (c .before .before .before .known .ensures) ∙ not-false (c .before .before .before .known .result) (c .before .before .if1 .left))
-    (rw (c .before .relays-in .ensures) at (c .if2 .taken)))
+    let k = c .before .before .before in
+    let a = k .before .args in
+    pair-source (relays (a .order .0)) (a .source) (a .target) (k .known .ensures) (not-false (k .known .result) (c .before .before .if1 .left))
+    (rw (c .before .relays-in .ensures) at (c .if2 .taken))
 
 returns-3 : tie.Need-returns-3
 returns-3 c =
-    let a = c .before .before .before .before .before .args in
-    sym (faults-target (a .order .0) (a .source) (a .target) false (sym (c .before .before .before .before .known .ensures) ∙ not-false (c .before .before .before .before .known .result) (c .before .before .before .if1 .left))
-    (rw (c .before .before .relays-in .ensures) at (c .before .if2 .left)) (rw (c .before .before .relays-in .ensures) at (c .if3 .taken)))
+    let k = c .before .before .before .before in
+    let a = k .before .args in
+    pair-target (relays (a .order .0)) (a .source) (a .target) (k .known .ensures) (not-false (k .known .result) (c .before .before .before .if1 .left))
+    (rw (c .before .before .relays-in .ensures) at (c .before .if2 .left)) (rw (c .before .before .relays-in .ensures) at (c .if3 .taken))
 
 returns-4 : tie.Need-returns-4
 returns-4 c =
-    let a = c .before .before .before .before .before .args in
-    sym (faults-room (a .order .0) (a .source) (a .target) false (record {
-      order = sym (c .before .before .before .before .known .ensures) ∙ not-false (c .before .before .before .before .known .result) (c .before .before .before .if1 .left);
-      source = rw (c .before .before .relays-in .ensures) at (c .before .if2 .left);
-      target = rw (c .before .before .relays-in .ensures) at (c .if3 .left);
-    }))
+    let k = c .before .before .before .before in
+    let a = k .before .args in
+    pair-fine (relays (a .order .0)) (a .source) (a .target) (k .known .ensures) (not-false (k .known .result) (c .before .before .before .if1 .left))
+    (rw (c .before .before .relays-in .ensures) at (c .before .if2 .left)) (rw (c .before .before .relays-in .ensures) at (c .if3 .left))
 
 pub checked-spec : {M : Type 1} → statement M
 checked-spec = tie.close (tie.spec known-requires returns relays-in-requires returns-2 returns-3 returns-4)

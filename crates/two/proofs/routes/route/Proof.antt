@@ -1,14 +1,33 @@
 -- `two::routes::route` meets its contract. Assumes nothing.
 use Prim.Native.Nat.{ℕ, _+_, _≤_, _<_}
-use mathlib.Core.Path.{_∙_, sym, ap, subst}
-use mathlib.Core.List.{_++_}
+use mathlib.Core.Path.{ap, _∙_, subst}
+use mathlib.Core.Bool.{Bool}
+use mathlib.Core.List.{List, _++_}
 use borrow.Author.Needs.{needs}
+use borrow.Author.Tests.{le-leb, lt-leb}
+use lib.Dec.{leb}
 use lib.ListN.{length, drop}
-use Rattle.answers.specs.Told.{told, against}
-use Rattle.two.specs.Next.{route}
-use Rattle.two.specs.Refusals.{Fine, fine, route-refused, route-short, route-fits}
+use Rattle.answers.specs.Order.{Fault, pairFaults}
+use Rattle.answers.specs.Pairs.{lent-refused, lent-short, lent-fine}
+use Rattle.answers.specs.Told.{told}
+use Rattle.two_parts.specs.Two.{relays}
+use Rattle.two.specs.Next.{hops, route}
+use Rattle.two_parts.specs.Says.{sizeFaultsIn}
+use Rattle.two_parts.specs.Needs.{Fine}
+use Rattle.two.specs.Needs.{fine}
 use Rattle.two.proofs.routes.route.Statement.{statement}
 use Rattle.two.proofs.routes.route.Tie as tie
+
+-- the faults of a pair, and whether room is wanted besides
+abbrev pair : ℕ → ℕ → ℕ → List Fault
+pair m s t = sizeFaultsIn m ++ pairFaults (relays m) s t
+
+abbrev short : ℕ → ℕ → ℕ → List ℕ → Bool
+short m s t out = leb (length out) (hops m s t)
+
+-- what is left where nothing is refused
+abbrev routed : ℕ → ℕ → ℕ → List ℕ → List ℕ
+routed m s t out = route m s t ++ drop (hops m s t + 1) out
 
 checked-requires : tie.Need-checked-requires
 checked-requires c κs = search needs
@@ -20,7 +39,7 @@ enum-told c = search needs
 clear : (c : tie.After-enum-told) → Fine (c .before .before .before .before .args .order .0) (c .before .before .before .before .args .source) (c .before .before .before .before .args .target)
 clear c =
     let a = c .before .before .before .before .args in
-    fine (a .order .0) (a .source) (a .target) (sym (ap against (c .enum-told .given .1)) ∙ c .before .before .checked .ensures)
+    fine (a .order .0) (a .source) (a .target) (c .enum-told .given .1) (c .before .before .checked .ensures)
 
 hops-requires : tie.Need-hops-requires
 hops-requires c κs = clear c
@@ -28,8 +47,11 @@ hops-requires c κs = clear c
 returns : tie.Need-returns
 returns c =
     let a = c .before .before .before .before .before .before .args in
-    route-short (a .order .0) (a .source) (a .target) (a .out .now) (clear (c .before .before))
-    (subst (λ (n : ℕ). length (a .out .now) ≤ n) (c .before .hops .ensures) (c .if1 .taken))
+    let m = a .order .0 in
+    let out = a .out .now in
+    lent-short (pair m (a .source) (a .target)) (short m (a .source) (a .target) out) (hops m (a .source) (a .target)) out (routed m (a .source) (a .target) out)
+    (c .before .before .before .before .checked .ensures) (c .before .before .enum-told .given .1)
+    (le-leb (length out) (hops m (a .source) (a .target)) (subst (λ (n : ℕ). length out ≤ n) (c .before .hops .ensures) (c .if1 .taken)))
 
 write-requires : tie.Need-write-requires
 write-requires c κs = record { fine = clear (c .before .before .before); all = c .before .before .hops .ensures; room = c .before .if1 .left }
@@ -44,8 +66,11 @@ returns-2 : tie.Need-returns-2
 returns-2 c =
     let a = c .before .before .before .before .before .before .before .before .before .before .args in
     let n = c .before .before .before .before .before .hops .ensures in
-    let told-and-left = route-fits (a .order .0) (a .source) (a .target) (a .out .now) (clear (c .before .before .before .before .before .before))
-    (subst (λ (n : ℕ). n < length (a .out .now)) n (c .before .before .before .before .if1 .left)) in (
+    let m = a .order .0 in
+    let out = a .out .now in
+    let told-and-left = lent-fine (pair m (a .source) (a .target)) (short m (a .source) (a .target) out) (hops m (a .source) (a .target)) out (routed m (a .source) (a .target) out)
+    (c .before .before .before .before .before .before .before .before .checked .ensures) (c .before .before .before .before .before .before .enum-told .given .1)
+    (lt-leb (length out) (hops m (a .source) (a .target)) (subst (λ (n : ℕ). n < length out) n (c .before .before .before .before .if1 .left))) in (
       ap (told 0 0) n ∙ told-and-left .0,
       c .before .before .write .ensures
           ∙ ap (λ (k : ℕ). route (a .order .0) (a .source) (a .target) ++ drop (k + 1) (a .out .now)) n ∙ told-and-left .1,
@@ -54,7 +79,10 @@ returns-2 c =
 returns-3 : tie.Need-returns-3
 returns-3 c =
     let a = c .before .before .before .before .before .args in
-    route-refused (a .order .0) (a .source) (a .target) (a .out .now) _ (sym (ap against (c .before .why .given .1)) ∙ c .before .before .before .checked .ensures)
+    let m = a .order .0 in
+    let out = a .out .now in
+    lent-refused (pair m (a .source) (a .target)) (short m (a .source) (a .target) out) (hops m (a .source) (a .target)) out (routed m (a .source) (a .target) out)
+    (c .before .before .before .checked .ensures) (c .before .why .given .1)
 
 pub route-spec : {M : Type 1} → statement M
 route-spec = tie.close (tie.spec checked-requires enum-told hops-requires returns write-requires enum-known-why same-length returns-2 returns-3)

@@ -3,7 +3,7 @@ use Prim.Native.Nat.{ℕ}
 use mathlib.Core.Path.{_∙_, ap₂}
 use borrow.Author.Needs.{needs}
 use lib.ListN.{length}
-use Rattle.two.specs.Told.{routeTold, routeLeaves}
+use Rattle.two.specs.Says.{routeTold, routeLeaves}
 use Rattle.two.proofs.routes.route_parts.Statement.{statement}
 use Rattle.two.proofs.routes.route_parts.Tie as tie
 

@@ -1,12 +1,11 @@
 -- `two::steps::next_hop` meets its contract. Assumes nothing.
-use mathlib.Core.Path.{_≡_, _∙_, sym, ap}
+use mathlib.Core.Path.{_∙_}
 use mathlib.Core.Bool.{false}
-use mathlib.Core.Option.{none}
 use borrow.Author.Needs.{needs}
-use Rattle.answers.specs.Told.{told, against}
+use Rattle.answers.specs.Pairs.{told-refused, told-fine}
 use Rattle.two.specs.Next.{next}
-use Rattle.two.specs.Told.{faults, nextTold}
-use Rattle.two.specs.Refusals.{fine, tell-value, tell-refusal}
+use Rattle.two_parts.specs.Needs.{Fine}
+use Rattle.two.specs.Needs.{fine}
 use Rattle.two.proofs.steps.next_hop.Statement.{statement}
 use Rattle.two.proofs.steps.next_hop.Tie as tie
 
@@ -17,28 +16,24 @@ enum-told : tie.Need-enum-told
 enum-told c = search needs
 
 -- nothing was found
-clear : (c : tie.After-enum-told) → none ≡ faults (c .before .before .before .args .order .0) (c .before .before .before .args .source) (c .before .before .before .args .target) false
-clear c = sym (ap against (c .enum-told .given .1)) ∙ c .before .before .checked .ensures
+clear : (c : tie.After-enum-told) → Fine (c .before .before .before .args .order .0) (c .before .before .before .args .source) (c .before .before .before .args .target)
+clear c = let a = c .before .before .before .args in fine (a .order .0) (a .source) (a .target) (c .enum-told .given .1) (c .before .before .checked .ensures)
 
 hop-requires : tie.Need-hop-requires
-hop-requires c κs = let a = c .before .before .before .args in fine (a .order .0) (a .source) (a .target) (clear c)
+hop-requires c κs = clear c
 
 enum-known-why : tie.Need-enum-known-why
 enum-known-why c = search needs
 
 returns : tie.Need-returns
-unfolding nextTold
 returns c =
     let a = c .before .before .before .before .args in
-    ap (told 0 0) (c .hop .ensures)
-    ∙ tell-value (faults (a .order .0) (a .source) (a .target) false) 0 (next (a .order .0) (a .source) (a .target)) (clear (c .before))
+    told-fine 0 (next (a .order .0) (a .source) (a .target)) (c .before .enum-told .given .1) (c .before .before .before .checked .ensures) (c .hop .ensures)
 
 returns-2 : tie.Need-returns-2
-unfolding nextTold
 returns-2 c =
     let a = c .before .before .before .before .args in
-    tell-refusal (faults (a .order .0) (a .source) (a .target) false) _ 0 (next (a .order .0) (a .source) (a .target))
-    (sym (ap against (c .before .why .given .1)) ∙ c .before .before .before .checked .ensures)
+    told-refused 0 (next (a .order .0) (a .source) (a .target)) (c .before .why .given .1) (c .before .before .before .checked .ensures)
 
 pub next-hop-spec : {M : Type 1} → statement M
 next-hop-spec = tie.close (tie.spec checked-requires enum-told hop-requires enum-known-why returns returns-2)

@@ -1,7 +1,7 @@
 -- `two::steps::next_hop_parts` meets its contract. Assumes nothing.
 use mathlib.Core.Path.{_∙_, ap₂}
 use borrow.Author.Needs.{needs}
-use Rattle.two.specs.Told.{nextTold}
+use Rattle.two.specs.Says.{nextTold}
 use Rattle.two.proofs.steps.next_hop_parts.Statement.{statement}
 use Rattle.two.proofs.steps.next_hop_parts.Tie as tie
 

@@ -1,7 +1,7 @@
 -- `two::views::seen_parts` meets its contract. Assumes nothing.
 use mathlib.Core.Path.{_∙_, ap₂}
 use borrow.Author.Needs.{needs}
-use Rattle.two.specs.Told.{seenTold}
+use Rattle.two.specs.Says.{seenTold}
 use Rattle.two.proofs.views.seen_parts.Statement.{statement}
 use Rattle.two.proofs.views.seen_parts.Tie as tie
 

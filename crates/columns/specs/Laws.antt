@@ -1,0 +1,104 @@
+-- A column being filled from its front, a place a turn (`Filling`), and the tests and counts of the loops that fill one. Assumes nothing.
+use Prim.Native.Nat.{ℕ, zero, suc, _+_, _≤_, _<_}
+use mathlib.Core.Path.{_≡_, refl, sym, ap, _∙_}
+use mathlib.Core.Bool.{Bool, true, false, not}
+use mathlib.Core.List.{List, [], _∷_, _++_, append-assoc}
+use native.Mathlib.Numerals.{add-one}
+use native.Mathlib.Omega.{arith}
+use native.Mathlib.Decide.{ℕ-discrete}
+use lib.ListN.{length, take, set, getD, length-set, length-append, List·getD-append}
+use lib.Seq.{take-suc, drop-cons, set-at, getD-at}
+use Rattle.scan.specs.Scan.{Spot, found, pick, seek, any, count, among, has}
+use Rattle.paths.specs.Fan.{relay, hops}
+use Rattle.paths.specs.Whole.{Failed, stops, broken, whole}
+use Rattle.columns.specs.Says.{ahead, marks}
+
+-- the first i places of `out` hold `column`, the others what was there
+pub record Filling (column : List ℕ) (i : ℕ) (was out : List ℕ) : Type 0 where
+  pub holds : out ≡ ahead i column was
+  pub size : length column ≡ i
+  pub long : length out ≡ length was
+
+pub filling-starts : (was : List ℕ) → Filling [] 0 was was
+filling-starts was = record { holds = refl; size = refl; long = refl }
+
+put-next : (column was : List ℕ) (i v : ℕ) → length column ≡ i → i < length was → set (ahead i column was) i v ≡ ahead (i + 1) (column ++ (v ∷ [])) was
+put-next column was i v e h = rw (drop-cons was i 0) (rw (set-at column _ _ _ i e) (simp (add-one, append-assoc)))
+
+pub filling-more : {column was out : List ℕ} {i : ℕ} (v : ℕ) → Filling column i was out → i < length was → Filling (column ++ (v ∷ [])) (i + 1) was (set out i v)
+filling-more {column} {was} {out} {i} v f h = record {
+  holds = ap (λ (l : List ℕ). set l i v) (f .holds) ∙ put-next column was i v (f .size) h;
+  size = simp length-append (omega (arith, f .size));
+  long = simp length-set (f .long);
+}
+
+-- a copied column, and a column of marks
+pub copied-more : (from : List ℕ) {was out : List ℕ} {i : ℕ} → Filling (take i from) i was out → i < length was → i < length from
+    → Filling (take (i + 1) from) (i + 1) was (set out i (getD from i 0))
+copied-more from {was} {out} {i} f h l =
+    let more : take (i + 1) from ≡ take i from ++ (getD from i 0 ∷ []) = rw add-one (take-suc from i 0 l) in
+    rw more (filling-more (getD from i 0) f h)
+
+marks-more : (test : ℕ → Bool) (i : ℕ) → marks test (i + 1) ≡ marks test i ++ (pick (test i) 1 0 ∷ [])
+unfolding marks
+marks-more test i = simp add-one
+
+pub marks-length : (test : ℕ → Bool) (n : ℕ) → length (marks test n) ≡ n
+unfolding marks
+marks-length test zero = refl
+marks-length test (suc n) = simp length-append (omega (arith, marks-length test n))
+
+-- the mark of each path is 1 where the test holds and else 0
+pub marks-at : (test : ℕ → Bool) (n i : ℕ) → i < n → getD (marks test n) i 0 ≡ pick (test i) 1 0
+unfolding marks
+marks-at test zero i h = absurd (omega arith)
+marks-at test (suc n) i h = go (ℕ-discrete i n) (λ l. marks-at test n i l)
+  where
+    go : Dec (i ≡ n) → (i < n → getD (marks test n) i 0 ≡ pick (test i) 1 0) → getD (marks test n ++ (pick (test n) 1 0 ∷ [])) i 0 ≡ pick (test i) 1 0
+    go (yes e) rest =
+        getD-at (marks test n) (pick (test n) 1 0) [] 0 i (marks-length test n ∙ sym e) ∙ ap (λ (j : ℕ). pick (test j) 1 0) (sym e)
+    go (no ne) rest = List·getD-append (marks test n) (pick (test n) 1 0 ∷ []) 0 i (omega (arith, marks-length test n)) ∙ rest (omega arith)
+
+pub marked-start : (test : ℕ → Bool) (was : List ℕ) → Filling (marks test 0) 0 was was
+unfolding marks
+marked-start test was = filling-starts was
+
+pub marked-more : (test : ℕ → Bool) {was out : List ℕ} {i v : ℕ} → Filling (marks test i) i was out → i < length was → v ≡ pick (test i) 1 0
+    → Filling (marks test (i + 1)) (i + 1) was (set out i v)
+marked-more test {was} {out} {i} {v} f h e = rw (marks-more test i) (rw (sym e) (filling-more v f h))
+
+-- how many were counted
+pub count-start : (test : ℕ → Bool) → 0 ≡ count test 0
+unfolding count
+count-start test = refl
+
+pub count-more : (test : ℕ → Bool) (i : ℕ) {n v : ℕ} → n ≡ count test i → v ≡ pick (test i) 1 0 → n + v ≡ count test (i + 1)
+unfolding count
+count-more test i {n} {v} p q = ap (λ (x : ℕ). n + x) q ∙ go (test i) ∙ sym (ap (count test) (add-one i))
+  where
+    go : (b : Bool) → n + pick b 1 0 ≡ pick b (suc (count test i)) (count test i)
+    go true = omega arith
+    go false = omega arith
+
+-- no more than were looked at
+pub count-most : (test : ℕ → Bool) (i : ℕ) → count test i ≤ i
+unfolding count
+count-most test zero = omega arith
+count-most test (suc i) = go (test i) (count-most test i)
+  where
+    go : (b : Bool) → count test i ≤ i → pick b (suc (count test i)) (count test i) ≤ suc i
+    go true r = omega arith
+    go false r = omega arith
+
+-- ---- one path
+
+-- what code has of a relay, and of whether it stands in the list
+pub stop-told : (w : ℕ) (places : List ℕ) (fails : Failed) (i p : ℕ) {x : ℕ} {r b : Bool} → x ≡ relay w places i p
+    → r ≡ among (fails .stopped) 0 (length (fails .stopped)) x → r ≡ b → stops w places fails i p ≡ b
+unfolding stops has
+stop-told w places fails i p e f g = ap (among (fails .stopped) 0 (length (fails .stopped))) (sym e) ∙ sym f ∙ g
+
+pub whole-told : (w : ℕ) (places counts : List ℕ) (fails : Failed) (i : ℕ) {sp : Spot} → seek (stops w places fails i) 0 (hops counts i + 1) ≡ sp
+    → not (found sp) ≡ whole w places counts fails i
+unfolding whole broken any
+whole-told w places counts fails i e = ap (λ (sp : Spot). not (found sp)) (sym e)

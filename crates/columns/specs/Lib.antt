@@ -1,0 +1,4 @@
+-- What the columns of a fan's paths hold, what the functions that fill them ask, and their laws.
+pub mod Says
+pub mod Needs
+pub mod Laws

@@ -1,0 +1,82 @@
+// The columns of a fan's paths, one for each part of an entry. Inner functions of survivors.
+ghost use mathlib.Core.Path.{_≡_};
+ghost use lib.ListN.{length, take};
+ghost use Rattle.scan.specs.Scan.{pick, count};
+ghost use Rattle.paths.specs.Whole as specs;
+ghost use Rattle.paths.specs.Whole.{failed};
+ghost use Rattle.judge_rows.specs.Needs.{Held};
+ghost use Rattle.columns.specs.Needs.{Copied, Marked, Filled};
+ghost use Rattle.columns.specs.Says.{ahead, marks, Columns};
+
+// Whether no relay on path i has stopped.
+fn whole(w: usize, places: &[u64], counts: &[u64], stopped: &[u64], i: usize) -> bool
+    requires { ⌜ Held w (length (now places)) (now counts) i ⌝ }
+    ensures { λ r. ⌜ r ≡ specs.whole w (now (places .entry)) (now (counts .entry)) (failed (now (stopped .entry))) i ⌝ }
+{
+    let h = counts[i] as usize;
+    let mut p: usize = 0;
+    while p <= h {
+        let x = judge_rows::relay(w, places, i, p);
+        if scan::among(stopped, 0, stopped.len(), x) {
+            return false;
+        }
+        p += 1;
+    }
+    true
+}
+
+// 1 for yes, 0 for no.
+fn flag(b: bool) -> u64
+    ensures { λ r. ⌜ r ≡ pick b 1 0 ⌝ }
+{
+    if b { 1 } else { 0 }
+}
+
+// Writes for each of k paths whether it is whole, and counts those that are.
+fn mark(w: usize, places: &[u64], counts: &[u64], stopped: &[u64], k: usize, out: &mut [u64]) -> u64
+    requires { ⌜ Marked w (length (now places)) (now counts) k (length (now out)) ⌝ }
+    ensures { λ r. ⌜ r ≡ count (specs.whole w (now (places .entry)) (now (counts .entry)) (failed (now (stopped .entry)))) k ⌝ }
+    ensures { λ r. ⌜ now (out .exit) ≡ ahead k (marks (specs.whole w (now (places .entry)) (now (counts .entry)) (failed (now (stopped .entry)))) k) (now (out .entry)) ⌝ }
+{
+    let mut n: u64 = 0;
+    let mut i: usize = 0;
+    while i < k {
+        let one = flag(whole(w, places, counts, stopped, i));
+        out[i] = one;
+        n += one;
+        i += 1;
+    }
+    n
+}
+
+// Writes the first k numbers of a list at the front of another.
+fn copy(from: &[u64], k: usize, to: &mut [u64])
+    requires { ⌜ Copied k (length (now from)) (length (now to)) ⌝ }
+    ensures { λ r. ⌜ now (to .exit) ≡ ahead k (take k (now (from .entry))) (now (to .entry)) ⌝ }
+{
+    let mut i: usize = 0;
+    while i < k {
+        to[i] = from[i];
+        i += 1;
+    }
+}
+
+// Fills the three columns for the paths to the targets, and counts the paths that are whole.
+pub fn fill(
+    w: usize,
+    targets: &[u64],
+    places: &[u64],
+    counts: &[u64],
+    stopped: &[u64],
+    ends: &mut [u64],
+    hops: &mut [u64],
+    wholes: &mut [u64],
+) -> u64
+    requires { ⌜ Filled w (length (now places)) (now counts) (length (now targets)) (length (now ends)) (length (now hops)) (length (now wholes)) ⌝ }
+    ensures { λ r. ⌜ Columns w (now (targets .entry)) (now (places .entry)) (now (counts .entry)) (failed (now (stopped .entry))) (now (ends .entry)) (now (hops .entry)) (now (wholes .entry)) r (now (ends .exit)) (now (hops .exit)) (now (wholes .exit)) ⌝ }
+{
+    let k = targets.len();
+    copy(targets, k, ends);
+    copy(counts, k, hops);
+    mark(w, places, counts, stopped, k, wholes)
+}

@@ -1,8 +1,0 @@
--- What the crate's contracts cite, the tables, and the theorem that their entries are distances.
-pub mod Ways
-pub mod Rule
-pub mod Tables
-pub mod Tested
-pub mod Told
-pub mod Moved
-pub mod Cases

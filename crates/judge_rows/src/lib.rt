@@ -1,0 +1,129 @@
+// One path against the rules: the first place at which something is wrong, for each thing that is looked for. Inner functions of the judge.
+ghost use mathlib.Core.Path.{_≡_};
+ghost use Prim.Native.Nat.{ℕ, _+_, _-_, _*_, _<_};
+ghost use lib.ListN.{length};
+ghost use Rattle.scan.specs.Scan.{seek, any, spotOf};
+ghost use Rattle.paths.specs.Fan as fan;
+ghost use Rattle.paths.specs.Finding as finding;
+ghost use Rattle.judge_rows.specs.Rules.{rulesOf};
+ghost use Rattle.judge_rows.specs.Needs.{Row, Laid, Step, Held, After};
+use mesh::Mesh;
+use paths::FILLER;
+use scan::Spot;
+
+// What paths are judged by: the mesh, and the places that a path takes.
+pub struct Rules {
+    pub mesh: Mesh,
+    pub width: usize,
+}
+
+// What stands at place p of path i, where a path takes w places.
+pub fn relay(w: usize, places: &[u64], i: usize, p: usize) -> u64
+    requires { ⌜ i * w + p < length (now places) ⌝ }
+    ensures { λ r. ⌜ r ≡ fan.relay w (now (places .entry)) i p ⌝ }
+{
+    places[i * w + p]
+}
+
+// 22: whether the relay at place p is out of range, or not linked to the one before.
+fn unlinked(rules: Rules, relays: u64, places: &[u64], i: usize, p: usize) -> bool
+    requires { ⌜ Step rules relays (length (now places)) i p ⌝ }
+    ensures { λ r. ⌜ r ≡ finding.unlinked (rulesOf rules) (now (places .entry)) i p ⌝ }
+{
+    let w = rules.width;
+    let v = relay(w, places, i, p);
+    if relays <= v {
+        return true;
+    }
+    let u = relay(w, places, i, p - 1);
+    let mesh = rules.mesh;
+    !mesh::joined(mesh, u, v)
+}
+
+// The first place of path i, of h hops, that is so.
+pub fn unlinked_at(rules: Rules, places: &[u64], i: usize, h: usize) -> Spot
+    requires { ⌜ Laid rules (length (now places)) i h ⌝ }
+    ensures { λ r. ⌜ spotOf r ≡ seek (finding.unlinked (rulesOf rules) (now (places .entry)) i) 1 h ⌝ }
+{
+    let mesh = rules.mesh;
+    let relays = mesh::relays_in(mesh);
+    let mut p: usize = 1;
+    while p <= h {
+        if unlinked(rules, relays, places, i, p) {
+            return Spot::At(p);
+        }
+        p += 1;
+    }
+    Spot::Nowhere
+}
+
+// Whether x stands on path j.
+fn on(w: usize, places: &[u64], counts: &[u64], x: u64, j: usize) -> bool
+    requires { ⌜ Held w (length (now places)) (now counts) j ⌝ }
+    ensures { λ r. ⌜ r ≡ finding.on w (now (places .entry)) (now (counts .entry)) x j ⌝ }
+{
+    let h = counts[j] as usize;
+    scan::among(places, j * w, h + 1, x)
+}
+
+// Whether x stands on one of the paths before path i.
+fn on_earlier(w: usize, places: &[u64], counts: &[u64], x: u64, i: usize) -> bool
+    requires { ⌜ ((j : ℕ) → j < i → Held w (length (now places)) (now counts) j) ⌝ }
+    ensures { λ r. ⌜ r ≡ any (finding.on w (now (places .entry)) (now (counts .entry)) x) 0 i ⌝ }
+{
+    let mut j: usize = 0;
+    while j < i {
+        if on(w, places, counts, x, j) {
+            return true;
+        }
+        j += 1;
+    }
+    false
+}
+
+// 24: whether the relay at place p stands earlier on this path or, the source at place 0 excepted, on an earlier one.
+fn seen(rules: Rules, places: &[u64], counts: &[u64], i: usize, p: usize) -> bool
+    requires { ⌜ After rules (length (now places)) (now counts) i p ⌝ }
+    ensures { λ r. ⌜ r ≡ finding.seen (rulesOf rules) (now (places .entry)) (now (counts .entry)) i p ⌝ }
+{
+    let w = rules.width;
+    let x = relay(w, places, i, p);
+    if scan::among(places, i * w, p, x) {
+        return true;
+    }
+    if p == 0 {
+        return false;
+    }
+    on_earlier(w, places, counts, x, i)
+}
+
+// The first place of path i, of h hops, that is so.
+pub fn seen_at(rules: Rules, places: &[u64], counts: &[u64], i: usize, h: usize) -> Spot
+    requires { ⌜ After rules (length (now places)) (now counts) i h ⌝ }
+    ensures { λ r. ⌜ spotOf r ≡ seek (finding.seen (rulesOf rules) (now (places .entry)) (now (counts .entry)) i) 0 (h + 1) ⌝ }
+{
+    let mut p: usize = 0;
+    while p <= h {
+        if seen(rules, places, counts, i, p) {
+            return Spot::At(p);
+        }
+        p += 1;
+    }
+    Spot::Nowhere
+}
+
+// 25: the first unused place of path i, of h hops, that is not filled.
+pub fn unfilled_at(rules: Rules, places: &[u64], i: usize, h: usize) -> Spot
+    requires { ⌜ Row (rules .width) (length (now places)) i h ⌝ }
+    ensures { λ r. ⌜ spotOf r ≡ seek (finding.unfilled (rules .width) (now (places .entry)) i) (h + 1) (rules .width - (h + 1)) ⌝ }
+{
+    let w = rules.width;
+    let mut p = h + 1;
+    while p < w {
+        if relay(w, places, i, p) != FILLER {
+            return Spot::At(p);
+        }
+        p += 1;
+    }
+    Spot::Nowhere
+}
