@@ -18,3 +18,5 @@ pub mod Walks
 pub mod Walked
 pub mod Ends
 pub mod Ways
+pub mod Links
+pub mod Bundle
