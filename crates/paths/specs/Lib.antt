@@ -20,3 +20,4 @@ pub mod Ends
 pub mod Ways
 pub mod Links
 pub mod Bundle
+pub mod Bundles
