@@ -6,7 +6,7 @@ use mathlib.Core.List.{List, [], _∷_, _++_, append-assoc}
 use native.Mathlib.Numerals.{add-one}
 use native.Mathlib.Omega.{arith}
 use native.Mathlib.Decide.{ℕ-discrete}
-use lib.ListN.{length, take, drop, set, getD, length-set, length-append, List·getD-append}
+use lib.ListN.{length, take, set, getD, length-set, length-append, List·getD-append}
 use lib.Seq.{take-suc, drop-cons, set-at, getD-at}
 use Rattle.scan.specs.Scan.{Spot, found, pick, seek, any, count, among, has}
 use Rattle.paths.specs.Fan.{relay, hops}

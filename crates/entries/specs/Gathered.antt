@@ -1,9 +1,9 @@
 -- The columns of a fan's paths, gathered for so many entries (`Gathers`), and how many there are to write.
 use Prim.Native.Nat.{ℕ, _≤_, _<_}
 use mathlib.Core.Path.{_≡_}
-use mathlib.Core.List.{List}
+use mathlib.Core.List.{List, _++_}
 use lib.Dec.{eqb, ltb}
-use lib.ListN.{length, getD}
+use lib.ListN.{length, drop, getD}
 use Rattle.scan.specs.Scan.{pick}
 use Rattle.paths.specs.Mesh.{width}
 use Rattle.paths.specs.Whole.{Failed}
@@ -11,13 +11,17 @@ use Rattle.mesh.specs.Kinds.{Kind}
 use Rattle.survivors.specs.Tally.{tallyTold}
 use Rattle.survivors.specs.declared.Tally.{Tally}
 use Rattle.survivors.specs.declared.Tally.the-variants as tally
-use Rattle.entries.specs.Says.{entryOf, pathEntry, settle, listedTold}
+use Rattle.entries.specs.Says.{entryOf, pathEntry, entries, settle, listedTold}
 use Rattle.entries.specs.declared.Entry.{Entry}
 use Rattle.entries.specs.declared.gathered.Gathered.{Gathered}
 
--- at most 32
+-- the most entries: no relay has more links
+abbrev pub MOST : ℕ
+MOST = 32
+
+-- as many as there is room for, up to the most
 unfoldable pub capped : ℕ → ℕ
-capped room = pick (ltb room 32) room 32
+capped room = pick (ltb room MOST) room MOST
 
 -- the entries that a tally comes with, of k paths
 abbrev pub takenOf : Tally → ℕ → ℕ
@@ -33,5 +37,9 @@ pub record Gathers (K : Kind) (n s : ℕ) (targets places counts : List ℕ) (fa
   pub told : tallyTold (g .tally) ≡ listedTold K n s targets places counts fails room
   pub taken : g .k ≡ settle K n s targets places counts fails room (length targets) 0
   pub each : (i : ℕ) → i < g .k → entryAt g i ≡ pathEntry (width (K .mesh n)) targets places counts fails i
-  pub small : g .k ≤ 32
+  pub small : g .k ≤ MOST
   pub fits : g .k ≤ room
+
+-- a list with the gathered entries at its front
+abbrev pub stored : Gathered → List Entry → List Entry
+stored g out = entries (entryAt g) (g .k) ++ drop (g .k) out

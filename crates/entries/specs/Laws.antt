@@ -32,11 +32,11 @@ use Rattle.survivors.specs.Laws.{settled-is, settled-not}
 use Rattle.survivors.specs.declared.Tally.{Tally}
 use Rattle.survivors.specs.declared.Tally.the-variants as tally
 use Rattle.entries.specs.Says.{entryOf, pathEntry, entries, listedTold, Listed}
-use Rattle.entries.specs.Gathered.{capped, takenOf, entryAt, Gathers}
+use Rattle.entries.specs.Gathered.{MOST, capped, takenOf, entryAt, Gathers}
 use Rattle.entries.specs.declared.Entry.{Entry}
 use Rattle.entries.specs.declared.gathered.Gathered.{Gathered}
 
--- ---- room for 32 is room for all
+-- ---- room for the most is room for all
 
 pub few-alike : (k n : ℕ) → few k n n n ≡ ltb n k
 few-alike k n = go (ltb n k)
@@ -45,16 +45,16 @@ few-alike k n = go (ltb n k)
     go true = refl
     go false = refl
 
-few-capped : (k room : ℕ) → k ≤ 32 → few k (capped room) (capped room) (capped room) ≡ ltb room k
+few-capped : (k room : ℕ) → k ≤ MOST → few k (capped room) (capped room) (capped room) ≡ ltb room k
 unfolding capped
-few-capped k room h = few-alike k (pick (ltb room 32) room 32) ∙ go (ltb room 32) refl
+few-capped k room h = few-alike k (pick (ltb room MOST) room MOST) ∙ go (ltb room MOST) refl
   where
-    go : (b : Bool) → ltb room 32 ≡ b → ltb (pick b room 32) k ≡ ltb room k
+    go : (b : Bool) → ltb room MOST ≡ b → ltb (pick b room MOST) k ≡ ltb room k
     go true e = refl
-    go false e = let l = ltb-false room 32 e in simp (le-ltb 32 k h, le-ltb room k (omega arith))
+    go false e = let l = ltb-false room MOST e in simp (le-ltb MOST k h, le-ltb room k (omega arith))
 
--- where 1 to 7 stand against a request, room does not matter; else it has no more than 32 targets
-against-same : (kind n s : ℕ) (targets : List ℕ) (a b : Bool) → (length targets ≤ 32 → a ≡ b) → requestAgainst (kindOf kind) n s targets a ≡ requestAgainst (kindOf kind) n s targets b
+-- where 1 to 7 stand against a request, room does not matter; else it has no more targets than that
+against-same : (kind n s : ℕ) (targets : List ℕ) (a b : Bool) → (length targets ≤ MOST → a ≡ b) → requestAgainst (kindOf kind) n s targets a ≡ requestAgainst (kindOf kind) n s targets b
 against-same kind n s targets a b same =
     request-room (kindOf kind) n s targets a
     ∙ go (requestAgainst (kindOf kind) n s targets false) refl
@@ -122,19 +122,19 @@ module _ (w : ℕ) (targets places counts : List ℕ) (fails : Failed) (i : ℕ)
 
 -- ---- what is gathered
 
-pub capped-most : (room : ℕ) {m : ℕ} → m ≡ capped room → m ≤ 32
+pub capped-most : (room : ℕ) {m : ℕ} → m ≡ capped room → m ≤ MOST
 unfolding capped
-capped-most room {m} e = rw e (go (ltb room 32) refl)
+capped-most room {m} e = rw e (go (ltb room MOST) refl)
   where
-    go : (b : Bool) → ltb room 32 ≡ b → pick b room 32 ≤ 32
-    go true l = omega (arith, ltb-true room 32 l)
+    go : (b : Bool) → ltb room MOST ≡ b → pick b room MOST ≤ MOST
+    go true l = omega (arith, ltb-true room MOST l)
     go false l = omega arith
 
--- the columns that are lent are as long as there is room, up to 32
-pub capped-length : (room : ℕ) (zeros : List ℕ) {m : ℕ} → length zeros ≡ 32 → m ≡ capped room → length (take m zeros) ≡ m
+-- the columns that are lent are as long as there is room, up to the most
+pub capped-length : (room : ℕ) (zeros : List ℕ) {m : ℕ} → length zeros ≡ MOST → m ≡ capped room → length (take m zeros) ≡ m
 capped-length room zeros {m} z e = length-take-le m zeros (omega (arith, capped-most room e, z))
 
-module _ (kind n s : ℕ) (targets places counts : List ℕ) (fails : Failed) (room m : ℕ) (t : Tally) (zeros ends₁ hops₁ wholes₁ : List ℕ) (z : length zeros ≡ 32) (cap : m ≡ capped room)
+module _ (kind n s : ℕ) (targets places counts : List ℕ) (fails : Failed) (room m : ℕ) (t : Tally) (zeros ends₁ hops₁ wholes₁ : List ℕ) (z : length zeros ≡ MOST) (cap : m ≡ capped room)
     (p : Survived (kindOf kind) n s targets places counts fails (take m zeros) (take m zeros) (take m zeros) t ends₁ hops₁ wholes₁) where
   abbrev K : Kind
   K = kindOf kind
@@ -176,7 +176,7 @@ module _ (kind n s : ℕ) (targets places counts : List ℕ) (fails : Failed) (r
     roomy : (ltb room k ≡ false) × (cramped ≡ false)
     roomy = neither-wanting (ltb room k) cramped refl (passed .1)
 
-    room-for : (k ≤ 32) × (k ≤ room) × (k ≤ length counts)
+    room-for : (k ≤ MOST) × (k ≤ room) × (k ≤ length counts)
     room-for =
         (omega (arith, passed .0 .sound .few, known-small kind n (passed .0 .known) .0), ltb-false room k (roomy .0), room-enough (K .mesh n) k (length places) (length counts) (roomy .1) .1)
 
@@ -199,7 +199,7 @@ module _ (kind n s : ℕ) (targets places counts : List ℕ) (fails : Failed) (r
     told = told;
     taken = e ∙ taken-settled asked first numbered t k ruled;
     each = λ i h. let l : i < takenOf t k = omega (arith, h, e) in let c = taken-clean asked first numbered t k i ruled l in entry-at (c .0) (c .1) i (omega (arith, l, taken-most t k k (λ c e. omega arith)));
-    small = omega (arith, e, taken-most t k 32 (λ c w. let r = whole-clean c w in room-for (r .0) (r .1) .0));
+    small = omega (arith, e, taken-most t k MOST (λ c w. let r = whole-clean c w in room-for (r .0) (r .1) .0));
     fits = omega (arith, e, taken-most t k room (λ c w. let r = whole-clean c w in room-for (r .0) (r .1) .1));
   }
     where

@@ -1,7 +1,7 @@
 -- The promise leaves one tally and one content of the list (`listed-unique`); the tally is the one that columns as long as the list give
 -- (`listed-agrees`), and after a count the entry of each path is what the promise says of it (`listed-at`). Assumes nothing.
 use Prim.Native.Nat.{ℕ, zero, suc, _<_}
-use mathlib.Core.Path.{_≡_, refl, sym, ap, _∙_}
+use mathlib.Core.Path.{_≡_, sym, ap, _∙_}
 use mathlib.Core.Bool.{Bool}
 use mathlib.Core.List.{List, [], _∷_, _++_}
 use native.Mathlib.Omega.{arith}

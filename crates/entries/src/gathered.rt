@@ -3,18 +3,21 @@ ghost use mathlib.Core.Path.{_≡_};
 ghost use Prim.Native.Nat.{_<_};
 ghost use Rattle.paths.specs.Whole.{failed};
 ghost use Rattle.mesh.specs.Kinds.{kindOf};
-ghost use Rattle.entries.specs.Gathered.{capped, takenOf, entryAt, Gathers};
+ghost use Rattle.entries.specs.Gathered.{MOST, capped, takenOf, entryAt, Gathers};
 use crate::Entry;
 use mesh::Mesh;
 use survivors::Tally;
+
+// The most entries: no relay has more links.
+const MOST: usize = 32;
 
 // What comes back, how many entries there are to write (none of a refusal or a finding), and their columns.
 pub struct Gathered {
     pub tally: Tally,
     pub k: usize,
-    pub ends: [u64; 32],
-    pub hops: [u64; 32],
-    pub wholes: [u64; 32],
+    pub ends: [u64; MOST],
+    pub hops: [u64; MOST],
+    pub wholes: [u64; MOST],
 }
 
 impl Gathered {
@@ -34,7 +37,7 @@ impl Gathered {
 
     // Entry i of the columns.
     pub fn entry(self, i: usize) -> Entry
-        requires { ⌜ i < 32 ⌝ }
+        requires { ⌜ i < MOST ⌝ }
         ensures { λ r. ⌜ r ≡ entryAt self i ⌝ }
     {
         Entry {
@@ -45,14 +48,14 @@ impl Gathered {
     }
 }
 
-// At most 32: no relay has more links.
+// As many as there is room for, up to the most.
 fn most(room: usize) -> usize
     ensures { λ r. ⌜ r ≡ capped room ⌝ }
 {
-    if room < 32 {
+    if room < MOST {
         return room;
     }
-    32
+    MOST
 }
 
 // How many entries a tally comes with, of k paths.
@@ -79,9 +82,9 @@ pub fn gather<'b>(
     ensures { λ r. ⌜ Gathers (kindOf (mesh .kind)) (mesh .size) source (now (targets .entry)) (now (places .entry)) (now (counts .entry)) (failed (now (stopped .entry))) room r ⌝ }
 {
     let n = most(room);
-    let mut ends = [0u64; 32];
-    let mut hops = [0u64; 32];
-    let mut wholes = [0u64; 32];
+    let mut ends = [0u64; MOST];
+    let mut hops = [0u64; MOST];
+    let mut wholes = [0u64; MOST];
     let tally = survivors::survivors(
         mesh,
         source,

@@ -31,16 +31,18 @@ use Rattle.requests.specs.Planned as planner
 use Rattle.requests.specs.Planned.{not-both}
 use Rattle.sheet.specs.Format.{relaysAt}
 use Rattle.sheet.specs.Says.{settled, flawed}
-use Rattle.sheet.specs.Total.{Sheeted, bytes}
-use Rattle.sheet.specs.Total as total
-use Rattle.sheet.specs.Lengths.{fan-sheet-most}
-use Rattle.sheet.specs.Bodied.{known-room, at-front}
-use Rattle.sheet.specs.Judging.{Judged, enough}
-use Rattle.sheet.specs.Running.{relays-count}
-use Rattle.sheet.specs.Writing.{judged-sheeted}
+use Rattle.sheet.specs.Pieces.{at-front}
+use Rattle.sheet.specs.Lengths.{relays-count}
+use Rattle.sheet.specs.Most.{fan-sheet-most, known-room}
+use Rattle.judge.specs.Alike.{enough}
+use Rattle.sheet.specs.Judging.{Judged}
 use Rattle.sheet.specs.declared.Flaw.{Flaw}
 use Rattle.sheet.specs.declared.Flaw.the-variants as flaw
-use Rattle.sheet.specs.declared.Written.{Written}
+use Rattle.sheet_write.specs.Says.{bytes}
+use Rattle.sheet_write.specs.Says as write
+use Rattle.sheet_write.specs.Needs.{Sheeted}
+use Rattle.sheet_write.specs.Writing.{judged-sheeted}
+use Rattle.sheet_write.specs.declared.Written.{Written}
 use Rattle.host.specs.Says.{codeOf, most, targetsIn, listAgainst, planAgainst, Answered, Planned}
 use Rattle.host.specs.Needs.{Roomy, Layable, few}
 
@@ -115,7 +117,7 @@ module _ (kind size s : ℕ) (targets : List ℕ) where
 
   pub lay-answered : {places counts places₁ counts₁ out out₁ : List ℕ} {r : Checked} {w : Written} → Layable kind size s targets (length places) (length counts) (length out)
       → planner.Planned (requestAgainst (kindOf kind) size s targets (short (meshOf kind size) (length targets) (length places) (length counts))) (meshOf kind size) s targets places counts r places₁ counts₁
-      → total.Put kind size s (length targets) places₁ counts₁ out w out₁ → Answered kind size s targets out out₁
+      → write.Put kind size s (length targets) places₁ counts₁ out w out₁ → Answered kind size s targets out out₁
   lay-answered {places} {counts} {places₁} {counts₁} {out} {out₁} p f q =
       let sheet = bytes kind size s (length targets) places₁ counts₁ in
       let j = lay-judged p f in

@@ -16,7 +16,7 @@ use Rattle.paths.specs.Fan.{Fan}
 use Rattle.mesh.specs.Kinds.{Kind, kindOf, meshOf}
 use Rattle.mesh.specs.Says.{pairAgainst, requestFaultsIn}
 use Rattle.sheet.specs.Format.{HEAD, relaysAt}
-use Rattle.sheet.specs.Total.{bytes}
+use Rattle.sheet_write.specs.Says.{bytes}
 
 -- number * 256 + place
 abbrev pub codeOf : Option Refusal → ℕ

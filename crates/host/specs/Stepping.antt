@@ -22,7 +22,7 @@ use Rattle.answers.specs.declared.Answer.{Answer}
 use Rattle.answers.specs.declared.Answer.the-variants as answer
 use Rattle.mesh.specs.Kinds.{Kind}
 use Rattle.mesh.specs.Says.{sizeFaultsIn, pairAgainst, nextTold}
-use Rattle.sheet.specs.Bodied.{at-front}
+use Rattle.sheet.specs.Pieces.{at-front}
 use Rattle.host.specs.Says.{codeOf, putAgainst, front, Put, nextAgainst, Stepped}
 
 -- ---- what stands against an answer

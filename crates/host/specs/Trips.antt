@@ -13,9 +13,9 @@ use Rattle.answers.specs.declared.Refusal.the-variants.{Unreadable}
 use Rattle.mesh.specs.Kinds.{kindOf, meshOf}
 use Rattle.mesh.specs.Says.{requestAgainst}
 use Rattle.mesh.specs.Requests.{request-passed}
-use Rattle.sheet.specs.Total.{bytes}
 use Rattle.sheet.specs.Judging.{judged-told}
-use Rattle.sheet.specs.TripsRead.{ReadsBack, write-read}
+use Rattle.sheet_write.specs.Says.{bytes}
+use Rattle.sheet_trips.specs.TripsRead.{ReadsBack, write-read}
 use Rattle.host.specs.Says.{most, targetsIn, listAgainst, planAgainst, Answered, Planned}
 
 module _ (kind size s : ℕ) (l out out₁ : List ℕ) {r : ℕ} (p : Planned (planAgainst kind size s l out) kind size s (targetsIn l) out r out₁) (o : planAgainst kind size s l out ≡ none) where

@@ -55,7 +55,7 @@ pub extern "C" fn gust_next_hop(
 }
 
 // Plans a fan and writes its sheet at the front of `out`; what stands after it stays. The targets are numbers of 8 bytes, big-endian. In the cube of 1
-// dimension, from 0 to 1, the sheet is that of `sheet::write`: 26 bytes. Answers 0, or number * 256 + place, and then `out` stays as it was: 10 where the
+// dimension, from 0 to 1, the sheet is that of `sheet_write::write`: 26 bytes. Answers 0, or number * 256 + place, and then `out` stays as it was: 10 where the
 // target bytes are no multiple of 8, then 1 to 7, then 8 where `out` is shorter than 16 + k * (2 + 8 * longest) bytes.
 #[no_mangle]
 pub extern "C" fn gust_plan(

@@ -33,7 +33,7 @@ fn lay(
     ensures { λ _. ⌜ Answered (mesh .kind) (mesh .size) source (now (targets .entry)) (now (out .entry)) (now (out .exit)) ⌝ }
 {
     planner::plan(mesh, source, targets, places, counts);
-    sheet::put_sheet(mesh, source, targets.len(), places, counts, out);
+    sheet_write::put_sheet(mesh, source, targets.len(), places, counts, out);
 }
 
 // The same, where nothing stands against it.
@@ -83,7 +83,7 @@ fn plan_in(
     ensures { λ r. ⌜ Planned (planAgainst (mesh .kind) (mesh .size) source (now (bytes .entry)) (now (out .entry))) (mesh .kind) (mesh .size) source (targetsIn (now (bytes .entry))) (now (out .entry)) r (now (out .exit)) ⌝ }
 {
     let k = looked_at(bytes.len() / 8);
-    sheet::take_relays(bytes, 0, k, 0, list);
+    sheet_take::take_relays(bytes, 0, k, 0, list);
     plan_list(mesh, source, &list[..k], places, counts, out)
 }
 

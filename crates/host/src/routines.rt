@@ -143,7 +143,7 @@ pub extern "C" fn gust_survivors(
     ))
 }
 
-// `sheet::write`: the value is how many bytes the sheet takes.
+// `sheet_write::write`: the value is how many bytes the sheet takes.
 #[no_mangle]
 pub extern "C" fn gust_write_sheet(
     kind: u64,
@@ -156,7 +156,7 @@ pub extern "C" fn gust_write_sheet(
 ) -> GustAnswer
     ensures { λ r. ⌜ specs.WroteIn kind size source (now (targets .entry)) (now (places .entry)) (now (counts .entry)) (now (out .entry)) r (now (out .exit)) ⌝ }
 {
-    shapes::of_written(sheet::write(
+    shapes::of_written(sheet_write::write(
         Mesh {
             kind: kind,
             size: size,
@@ -169,7 +169,7 @@ pub extern "C" fn gust_write_sheet(
     ))
 }
 
-// `sheet::read`.
+// `sheet_read::read`.
 #[no_mangle]
 pub extern "C" fn gust_read_sheet(
     bytes: &[u8],
@@ -179,5 +179,5 @@ pub extern "C" fn gust_read_sheet(
 ) -> GustReading
     ensures { λ r. ⌜ specs.ReadIn (now (bytes .entry)) (now (places .entry)) (now (counts .entry)) (now (targets .entry)) r (now (places .exit)) (now (counts .exit)) (now (targets .exit)) ⌝ }
 {
-    shapes::of_reading(sheet::read(bytes, places, counts, targets))
+    shapes::of_reading(sheet_read::read(bytes, places, counts, targets))
 }

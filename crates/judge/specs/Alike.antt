@@ -1,13 +1,13 @@
 -- What lies beyond the k paths is not looked at: the judge tells the same of the slices cut to them (`judged-cut`), so the same of slices that
 -- are the same so far (`judged-alike`). Assumes nothing.
-use Prim.Native.Nat.{ℕ, _*_, _≤_, _<_, min}
+use Prim.Native.Nat.{ℕ, _*_, _≤_, min}
 use mathlib.Core.Path.{_≡_, sym, ap, ap₂, _∙_}
 use mathlib.Core.Bool.{Bool, true, false}
 use mathlib.Core.List.{List}
 use native.Mathlib.Omega.{arith}
 use native.Mathlib.Decide.{decLe}
 use lib.Dec.{ltb}
-use lib.ListN.{length, take, getD, length-take}
+use lib.ListN.{length, take, length-take}
 use lib.Seq.{getD-take}
 use borrow.Author.Tests.{lt-ltb, le-ltb}
 use Rattle.scan.specs.Scan.{pick}

@@ -1,7 +1,7 @@
 -- The numbers of the findings are 20 and more (`finding-numbered`): so what the judge tells is all 0 exactly where nothing stands against the
 -- request and nothing is found (`rule-clean`). Assumes nothing.
 use Prim.Native.Nat.{ℕ, zero, suc, _≤_}
-use mathlib.Core.Path.{_≡_, refl, sym, ap, _∙_}
+use mathlib.Core.Path.{_≡_, refl, sym, ap}
 use mathlib.Core.Bool.{Bool, true, false, not}
 use mathlib.Core.Logic.{_≢_}
 use mathlib.Core.List.{List}
@@ -18,7 +18,7 @@ use Rattle.paths.specs.Mesh.{Mesh}
 use Rattle.paths.specs.Rules.{Rules, span, fanRules}
 use Rattle.paths.specs.Fan.{relay, hops}
 use Rattle.paths.specs.Finding.{Finding, clean, found, report, report-at, unlinkedAt, seenAt, unfilledAt, findingOf, findingFrom, findingBy, finding}
-use Rattle.judge.specs.Says.{Ruling, ruling, numberOf, rule, named}
+use Rattle.judge.specs.Says.{ruling, numberOf, rule, named}
 use Rattle.judge.specs.declared.Finding as code
 use Rattle.judge.specs.declared.Finding.the-variants.{TooLong, NotFromSource, NotLinked, NotToTarget, SeenAgain, NotFilled}
 

@@ -11,12 +11,11 @@ use native.Mathlib.Decide.{ℕ-discrete}
 use lib.ListN.{length, getD}
 use Rattle.scan.specs.Scan.{Spot, nowhere, at}
 use Rattle.paths.specs.Rules.{Rules, span}
-use Rattle.paths.specs.Fan.{hops}
 use Rattle.paths.specs.Finding.{Finding, clean, found, report, report-at, findingOf, findingFrom, findingBy}
 use Rattle.paths.specs.Places.{row-below}
 use Rattle.paths.specs.Clear.{path-clear}
 use Rattle.judge.specs.Says.{named, searchOf}
-use Rattle.judge_rows.specs.Needs.{Row, Held}
+use Rattle.judge_rows.specs.Needs.{Held}
 use Rattle.judge.specs.declared.Search.{Search}
 use Rattle.judge.specs.declared.Search.the-variants as search
 use Rattle.judge.specs.declared.Finding as code

@@ -6,7 +6,6 @@ use mathlib.Core.List.{List}
 use mathlib.Core.Option.{none, some}
 use lib.Dec.{eqb}
 use Rattle.scan.specs.Scan.{pick}
-use Rattle.answers.specs.Told.{number, place}
 use Rattle.answers.specs.Laws.{refusal, refusal-back, number-some, number-apart, isFinding}
 use Rattle.answers.specs.declared.Refusal.{Refusal}
 use Rattle.paths.specs.Finding.{clean}

@@ -10,7 +10,7 @@ use script::put;
 use script::put_first;
 use script::run;
 use script::text;
-use sheet::Reading;
+use sheet_check::Reading;
 
 // How many places are lent.
 struct Room {
@@ -39,7 +39,7 @@ fn tell_written(
     out: &mut [u8],
 ) {
     let n = least(room, out.len());
-    let written = sheet::write(mesh, source, targets, places, counts, &mut out[..n]);
+    let written = sheet_write::write(mesh, source, targets, places, counts, &mut out[..n]);
     text(b"wrote");
     put(written.number());
     put(written.bytes() as u64);
@@ -70,7 +70,7 @@ fn tell_read(
     let a = least(room.places, places.len());
     let b = least(room.counts, counts.len());
     let c = least(room.targets, targets.len());
-    let reading = sheet::read(bytes, &mut places[..a], &mut counts[..b], &mut targets[..c]);
+    let reading = sheet_read::read(bytes, &mut places[..a], &mut counts[..b], &mut targets[..c]);
     put_reading(reading);
     text(b" places");
     put_first(places, a);

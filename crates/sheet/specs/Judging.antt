@@ -1,35 +1,24 @@
 -- What the judge has found where it tells 0 (`Judged`, `judged`, `judged-told`), and that it looks at no more than the paths asked for: slices
 -- that are the same so far are judged the same (`judged-same`). Assumes nothing.
-use Prim.Native.Nat.{ℕ, _+_, _*_, _≤_, _<_}
-use mathlib.Core.Path.{_≡_, sym, ap, ap₂, _∙_, subst}
+use Prim.Native.Nat.{ℕ, _*_, _≤_}
+use mathlib.Core.Path.{_≡_, ap, ap₂, _∙_, subst}
 use mathlib.Core.Bool.{Bool, false}
 use mathlib.Core.List.{List}
 use mathlib.Core.Option.{Option, none}
-use native.Mathlib.Omega.{arith}
-use lib.ListN.{length, getD}
-use borrow.Author.Tests.{le-ltb}
+use lib.ListN.{length}
 use Rattle.answers.specs.declared.Refusal.{Refusal}
 use Rattle.paths.specs.Mesh.{Mesh, width}
-use Rattle.paths.specs.Fan.{relay, hops, Fan}
+use Rattle.paths.specs.Rules.{fanRules}
+use Rattle.paths.specs.Fan.{Fan}
 use Rattle.paths.specs.Finding.{Finding, finding}
 use Rattle.paths.specs.Judged.{clean-fan, fan-clean}
-use Rattle.paths.specs.Lists.{laid-fan, ahead-length}
-use Rattle.paths.specs.Read.{read, fan-lists}
+use Rattle.paths.specs.Alike.{Same, finding-alike}
 use Rattle.mesh.specs.Kinds.{Kind}
 use Rattle.mesh.specs.Says.{requestAgainst, short}
 use Rattle.mesh.specs.Requests.{Fine, request-fine, request-passed, room-enough}
 use Rattle.judge.specs.Says.{numberOf, rule, judgeAgainst, judgeTold}
 use Rattle.judge.specs.Numbers.{finding-numbered, rule-zero}
-use Rattle.paths.specs.Places.{row-below}
-use Rattle.sheet.specs.Lent.{path-at}
-
--- the first n numbers are the same
-abbrev pub Same : ℕ → List ℕ → List ℕ → Type 0
-Same n l r = (j : ℕ) → j < n → getD l j 0 ≡ getD r j 0
-
--- slices that are not short
-pub enough : (m : Mesh) (k places counts : ℕ) → k * width m ≤ places → k ≤ counts → short m k places counts ≡ false
-enough m k places counts h g = simp (le-ltb places (k * width m) h, le-ltb counts k g)
+use Rattle.judge.specs.Alike.{enough}
 
 module _ (K : Kind) (n s : ℕ) (targets : List ℕ) where
   abbrev m : Mesh
@@ -71,13 +60,9 @@ module _ (K : Kind) (n s : ℕ) (targets : List ℕ) where
 
   pub judged-same : (places counts other others : List ℕ) → Judged places counts → k * w ≤ length other → k ≤ length others → Same (k * w) other places → Same k others counts
       → Judged other others
-  unfolding relay hops
   judged-same places counts other others j h g a b = record {
     request = j .request;
     room = h;
     counted = g;
-    fan = laid-fan m s targets other others (read w places counts) (fan-lists m s targets places counts (j .fan)) (record {
-      at = λ i p l q. a (i * w + p) (omega (arith, row-below w l)) ∙ path-at m s places counts i (getD targets i 0) p (j .fan .path i l) (omega arith);
-      count = λ i l. b i l ∙ sym (ahead-length places (i * w + 1) (hops counts i));
-    });
+    fan = clean-fan m s targets other others (finding-alike (fanRules m) s targets other others places counts a b ∙ fan-clean m s targets places counts (j .fan));
   }

@@ -8,12 +8,12 @@ use native.Mathlib.Omega.{arith}
 use native.Mathlib.Decide.{decLt}
 use lib.ListN.{length, getD, take, drop, replicate, length-append, length-drop, getD-replicate, List·getD-append, List·getD-eq-default}
 use lib.Seq.{take-add, drop-at, drop-drop, drop-cons, drop-length, getD-take, getD-drop, getD-append-add, ext-getD, length-take-le}
-use Rattle.paths.specs.Mesh.{Mesh, width}
 use Rattle.paths.specs.Fan.{filler, relay, hops, Path, Fan}
 use Rattle.paths.specs.Lists.{ahead, ahead-length, ahead-at}
+use Rattle.paths.specs.Mesh.{Mesh, width}
 use Rattle.paths.specs.Read.{read}
-use Rattle.sheet.specs.Taking.{row-length}
 use Rattle.sheet.specs.Format.{row, placesOf, countsOf, lastOf, targetsOf, pathsFrom, pathsOf}
+use Rattle.sheet.specs.Lengths.{row-length}
 
 -- no path has more than so many hops
 abbrev pub Within : (longest : ℕ) → List (List ℕ) → Type 0

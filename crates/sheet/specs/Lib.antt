@@ -1,25 +1,10 @@
--- Sheets: the format, and what the writer and the reader promise.
+-- Sheets: the format, why one is refused, and laws of both.
 pub mod Format
 pub mod Says
-pub mod Total
-pub mod Putting
-pub mod PutSheet
-pub mod Writing
-pub mod Taken
-pub mod Looking
-pub mod Running
-pub mod Taking
-pub mod Bodied
-pub mod Heads
-pub mod Cases
-pub mod Unique
-pub mod Lent
+pub mod Flaws
+pub mod Pieces
 pub mod Lengths
-pub mod There
+pub mod Lent
+pub mod Most
 pub mod Judging
-pub mod Accepted
-pub mod Again
-pub mod Fits
-pub mod TripsRead
-pub mod TripsWrite
-pub mod Trips
+pub mod Cases

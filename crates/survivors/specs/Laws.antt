@@ -1,6 +1,6 @@
 -- Why survivors keeps its promise: what it is to give where the judge finds a fan (`fan-ready`, `fan-survived`) and where not
 -- (`found-survived`, `refused-survived`). Assumes nothing.
-use Prim.Native.Nat.{ℕ, _*_, _≤_, _<_}
+use Prim.Native.Nat.{ℕ, _*_, _≤_}
 use mathlib.Core.Path.{_≡_, refl, sym, ap, ap₂, _∙_}
 use mathlib.Core.Bool.{Bool, true, false}
 use mathlib.Core.Logic.{_≢_}
@@ -8,12 +8,11 @@ use mathlib.Core.List.{List}
 use mathlib.Core.Option.{Option, none, some}
 use native.Mathlib.Omega.{arith}
 use lib.Dec.{ltb}
-use lib.ListN.{length, take, getD}
+use lib.ListN.{length}
 use borrow.Author.Tests.{ltb-false}
 use Rattle.scan.specs.Scan.{pick, count}
 use Rattle.answers.specs.declared.Refusal.{Refusal}
 use Rattle.paths.specs.Mesh.{width}
-use Rattle.paths.specs.Fan.{Fan}
 use Rattle.paths.specs.Finding.{Finding, clean, found, finding}
 use Rattle.paths.specs.Places.{row-below}
 use Rattle.paths.specs.Judged.{clean-fan}
@@ -21,16 +20,15 @@ use Rattle.paths.specs.Whole.{Failed, whole}
 use Rattle.mesh.specs.Kinds.{Kind}
 use Rattle.mesh.specs.Says.{short}
 use Rattle.mesh.specs.Requests.{Fine, request-passed, neither-wanting, room-enough}
-use Rattle.judge.specs.Says.{ruling, numberOf, rule, verdictTold, judgeAgainst, judgeTold}
+use Rattle.judge.specs.Says.{ruling, numberOf, rule, verdictTold, judgeAgainst}
 use Rattle.judge.specs.Numbers.{finding-numbered, found-number, refused-number, rule-clean}
-use Rattle.judge_rows.specs.Needs.{Row, Held}
 use Rattle.judge.specs.declared.Finding as code
 use Rattle.judge.specs.declared.Verdict.{Verdict}
 use Rattle.judge.specs.declared.Verdict.the-variants as verdict
 use Rattle.columns.specs.Says.{ahead, marks, Columns}
 use Rattle.columns.specs.Needs.{Filled}
-use Rattle.survivors.specs.Tally.{tallied, verdictOf, countOf, tallyTold}
-use Rattle.survivors.specs.Says.{few, settled, lacking, survivorsTold, Survived}
+use Rattle.survivors.specs.Tally.{tallied, verdictOf, countOf}
+use Rattle.survivors.specs.Says.{few, settled, lacking, Survived}
 use Rattle.survivors.specs.declared.Tally.{Tally}
 use Rattle.survivors.specs.declared.Tally.the-variants as tally
 

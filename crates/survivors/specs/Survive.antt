@@ -1,12 +1,12 @@
 -- Main theorem: of a fan of k paths with f failures, the source not stopped, survivors counts at least k less f (`survivors-survive`). With the source stopped it counts none (`survivors-none`), with nothing stopped all (`survivors-all`); repeated
 -- numbers and numbers that are no relay change nothing (`members-alike`). Assumes nothing.
 use Prim.Native.Nat.{ℕ, zero, suc, _+_, _≤_, _<_}
-use mathlib.Core.Path.{_≡_, refl, sym, ap, _∙_}
-use mathlib.Core.Bool.{Bool, true, false, not}
+use mathlib.Core.Path.{_≡_, sym, ap, _∙_}
+use mathlib.Core.Bool.{true, false, not}
 use mathlib.Core.List.{List, []}
 use native.Mathlib.Omega.{arith}
-use lib.ListN.{length, getD}
-use Rattle.scan.specs.Scan.{Spot, found, seek, any, count, has, different}
+use lib.ListN.{length}
+use Rattle.scan.specs.Scan.{Spot, found, any, count, has, different}
 use Rattle.scan.specs.Laws.{has-none, seek-same}
 use Rattle.paths.specs.Mesh.{Mesh, width}
 use Rattle.paths.specs.Fan.{Fan, relay, hops}
@@ -16,7 +16,7 @@ use Rattle.paths.specs.Survive.{fan-survives, none-survives}
 use Rattle.mesh.specs.Kinds.{Kind}
 use Rattle.judge.specs.Says.{verdictTold}
 use Rattle.columns.specs.Laws.{count-most}
-use Rattle.survivors.specs.Tally.{rulingOf, wholeOf, verdictOf, countOf, tallyTold}
+use Rattle.survivors.specs.Tally.{rulingOf, wholeOf, verdictOf, countOf}
 use Rattle.survivors.specs.Says.{Survived}
 use Rattle.survivors.specs.Laws.{judged-clean, settled-is}
 use Rattle.survivors.specs.declared.Tally.{Tally}

@@ -2,7 +2,7 @@
 use Prim.Native.Nat.{ℕ, _-_, _≤_}
 use mathlib.Core.Path.{_≡_, _∙_, ap}
 use native.Mathlib.Omega.{arith}
-use lib.ListN.{length, take}
+use lib.ListN.{take}
 use Rattle.columns.specs.Says.{ahead}
 use Rattle.columns.specs.Laws.{Filling, filling-starts, copied-more}
 use borrow.Author.Needs.{needs}

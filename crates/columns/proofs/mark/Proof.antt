@@ -4,7 +4,6 @@ use mathlib.Core.Path.{_≡_, _∙_, ap}
 use mathlib.Core.Bool.{Bool}
 use mathlib.Core.List.{List}
 use native.Mathlib.Omega.{arith}
-use lib.ListN.{length}
 use Rattle.scan.specs.Scan.{pick, count}
 use Rattle.paths.specs.Whole.{failed, whole}
 use Rattle.columns.specs.Says.{ahead, marks}

@@ -1,8 +1,6 @@
 -- `columns::whole` meets its contract: the invariant is that no relay passed has stopped. Assumes nothing.
 use Prim.Native.Nat.{_+_, _-_}
-use mathlib.Core.Path.{_≡_}
 use native.Mathlib.Omega.{arith}
-use lib.ListN.{getD}
 use Rattle.scan.specs.Laws.{Passed, passed-start, passed-more, passed-at, passed-all}
 use Rattle.paths.specs.Fan.{hops}
 use Rattle.paths.specs.Whole.{failed, stops}

@@ -1,5 +1,4 @@
 -- `judge_rows::seen` meets its contract. Assumes nothing.
-use native.Mathlib.Omega.{arith}
 use Rattle.judge_rows.specs.Laws.{seen-on-this, seen-excepted, seen-before}
 use Rattle.judge_rows.specs.Rules.{rulesOf}
 use borrow.Author.Needs.{needs}

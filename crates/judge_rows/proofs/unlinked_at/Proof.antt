@@ -1,6 +1,6 @@
 -- `judge_rows::unlinked_at` meets its contract: the invariant is that each relay passed is linked to the one before. Assumes nothing.
 use Prim.Native.Nat.{_+_, _-_}
-use mathlib.Core.Path.{_≡_, sym, _∙_}
+use mathlib.Core.Path.{sym, _∙_}
 use native.Mathlib.Omega.{arith}
 use Rattle.scan.specs.Laws.{Passed, passed-start, passed-more, passed-at, passed-all}
 use Rattle.paths.specs.Finding.{unlinked}

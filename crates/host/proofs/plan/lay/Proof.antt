@@ -6,7 +6,7 @@ use Rattle.host.proofs.plan.lay.Tie as tie
 use Rattle.host.proofs.plan.lay.Reads as reads
 use Rattle.host.proofs.plan.lay.Lts as lts
 use Rattle.planner.proofs.plan.Reads as plan-reads
-use Rattle.sheet.proofs.put_sheet.Reads as put-sheet-reads
+use Rattle.sheet_write.proofs.put_sheet.Reads as put-sheet-reads
 
 plan-requires : tie.Need-plan-requires
 plan-requires c κs = search needs

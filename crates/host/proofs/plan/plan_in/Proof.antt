@@ -9,7 +9,7 @@ use Rattle.host.proofs.plan.plan_in.Reads as reads
 use Rattle.host.proofs.plan.plan_in.Lts as lts
 use Rattle.host.proofs.plan.looked_at.Reads as looked-at-reads
 use Rattle.host.proofs.plan.plan_list.Reads as plan-list-reads
-use Rattle.sheet.proofs.take_relays.Reads as take-relays-reads
+use Rattle.sheet_take.proofs.take_relays.Reads as take-relays-reads
 
 looked-at-requires : tie.Need-looked-at-requires
 looked-at-requires c κs = search needs

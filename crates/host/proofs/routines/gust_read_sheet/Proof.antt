@@ -7,7 +7,7 @@ use Rattle.host.proofs.routines.gust_read_sheet.Tie as tie
 use Rattle.host.proofs.routines.gust_read_sheet.Reads as reads
 use Rattle.host.proofs.routines.gust_read_sheet.Lts as lts
 use Rattle.host.proofs.shapes.of_reading.Reads as of-reading-reads
-use Rattle.sheet.proofs.read.Reads as read-reads
+use Rattle.sheet_read.proofs.read.Reads as read-reads
 
 read-requires : tie.Need-read-requires
 read-requires c κs = search needs

@@ -7,7 +7,7 @@ use Rattle.host.proofs.routines.gust_write_sheet.Tie as tie
 use Rattle.host.proofs.routines.gust_write_sheet.Reads as reads
 use Rattle.host.proofs.routines.gust_write_sheet.Lts as lts
 use Rattle.host.proofs.shapes.of_written.Reads as of-written-reads
-use Rattle.sheet.proofs.write.Reads as write-reads
+use Rattle.sheet_write.proofs.write.Reads as write-reads
 
 write-requires : tie.Need-write-requires
 write-requires c κs = search needs

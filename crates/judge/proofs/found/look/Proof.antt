@@ -1,5 +1,5 @@
 -- `judge::found::look` meets its contract: each finding is told where no test before it held. Assumes nothing.
-use mathlib.Core.Path.{_≡_, sym, ap, _∙_}
+use mathlib.Core.Path.{_≡_, ap, _∙_}
 use Rattle.scan.specs.Scan.{spotOf}
 use Rattle.paths.specs.Fan.{hops}
 use Rattle.judge_rows.specs.Rules.{rulesOf}

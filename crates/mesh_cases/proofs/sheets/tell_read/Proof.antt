@@ -9,7 +9,7 @@ use Rattle.mesh_cases.proofs.sheets.tell_read.Lts as lts
 use Rattle.script.proofs.least.Reads as least-reads
 use Rattle.script.proofs.put_first.Reads as put-first-reads
 use Rattle.script.proofs.text.Reads as text-reads
-use Rattle.sheet.proofs.read.Reads as read-reads
+use Rattle.sheet_read.proofs.read.Reads as read-reads
 use Rattle.mesh_cases.proofs.sheets.put_reading.Reads as put-reading-reads
 
 least-requires : tie.Need-least-requires

@@ -1,0 +1,79 @@
+-- What a head with nothing wrong says of its sheet (`head-bodied`, and `body-known` to `body-small`), and what is wrong with a head is told of the
+-- sheet (`head-flawed`). Assumes nothing.
+use Prim.Native.Nat.{ℕ, _-_, _≤_}
+use mathlib.Core.Path.{_≡_, refl, sym, ap, ap₂, _∙_}
+use mathlib.Core.Bool.{Bool, true, false, not}
+use mathlib.Core.List.{List}
+use mathlib.Core.Option.{Option, none, some}
+use native.Mathlib.Omega.{arith}
+use lib.Dec.{eqb, ltb}
+use lib.ListN.{length}
+use borrow.Author.Tests.{eqb-false, ltb-false, not-false}
+use Rattle.paths.specs.Mesh.{Mesh, width}
+use Rattle.mesh.specs.Kinds.{meshOf, known}
+use Rattle.mesh.specs.Laws.{known-small}
+use Rattle.mesh.specs.Requests.{neither-wanting}
+use Rattle.mesh.specs.declared.Mesh as code
+use Rattle.sheet.specs.Format.{VERSION, HEAD, lengthAt, versionAt, kindAt, sizeAt, countAt, sourceAt}
+use Rattle.sheet.specs.Says.{flawNumber, before}
+use Rattle.sheet.specs.Flaws.{flaw-some, flawed-none}
+use Rattle.sheet.specs.declared.Flaw.{Flaw}
+use Rattle.sheet.specs.declared.Flaw.the-variants as flaw
+use Rattle.sheet_check.specs.Says.{reads, readNumber, readKind, readSize, readSource, readCount, readingTold, cut, badCount, meshAt, headAgainst, pathsAgainst, checkAgainst, sheetTold}
+use Rattle.sheet_check.specs.Needs.{Bodied}
+use Rattle.sheet_check.specs.Told.{told-flaw}
+use Rattle.sheet_check.specs.declared.Reading.{Reading}
+use Rattle.sheet_check.specs.declared.Reading.the-variants as reading
+
+module _ (l : List ℕ) where
+  -- the head is read
+  pub head-bodied : {m : code.Mesh} {s k : ℕ} {r : Reading} → r ≡ reading.Fan m s k → readingTold r ≡ sheetTold l (headAgainst l) → Bodied l (m .kind) (m .size) s k
+  head-bodied {m} {s} {k} e t = go (headAgainst l) refl (sym (ap readingTold e) ∙ t)
+    where
+      go : (o : Option Flaw) → headAgainst l ≡ o → reads 0 0 (m .kind) (m .size) s k ≡ sheetTold l o → Bodied l (m .kind) (m .size) s k
+      go none h g = record { head = h; kind-is = ap readKind g; size-is = ap readSize g; source-is = ap readSource g; count-is = ap readCount g }
+      go (some f) h g = absurd (eqb-false (flawNumber f) 0 (flaw-some f) (sym (ap readNumber g)))
+
+  -- what is wrong with the head
+  pub head-flaw : {f : Flaw} {r : Reading} → r ≡ reading.Refused f → readingTold r ≡ sheetTold l (headAgainst l) → some f ≡ headAgainst l
+  head-flaw e t = told-flaw l (headAgainst l) (sym (ap readingTold e) ∙ t)
+
+  pub head-flawed : {f : Flaw} {r : Reading} → r ≡ reading.Refused f → readingTold r ≡ sheetTold l (headAgainst l) → readingTold (reading.Refused f) ≡ sheetTold l (checkAgainst l)
+  head-flawed e t = ap (λ (o : Option Flaw). sheetTold l (before o (pathsAgainst l))) (head-flaw e t)
+
+-- ---- what a head with nothing wrong says
+
+module _ {l : List ℕ} {kind size s k : ℕ} (b : Bodied l kind size s k) where
+  faultless : (cut l ≡ false) × (known (kindAt l) (sizeAt l) ≡ true) × (badCount (meshAt l .links) (countAt l) ≡ false)
+  faultless =
+      let p = flawed-none (cut l) flaw.Cut _ (b .head) in
+      let q = flawed-none (not (eqb (versionAt l) VERSION)) flaw.Version _ (p .1) in
+      let r = flawed-none (not (known (kindAt l) (sizeAt l))) flaw.NoMesh _ (q .1) in
+      let t = flawed-none (badCount (meshAt l .links) (countAt l)) flaw.Paths none (r .1) in
+      (p .0, not-false (known (kindAt l) (sizeAt l)) (r .0), t .0)
+
+  pub mesh-is : meshOf kind size ≡ meshAt l
+  mesh-is = ap₂ meshOf (b .kind-is) (b .size-is)
+
+  pub body-known : known kind size ≡ true
+  body-known = ap₂ known (b .kind-is) (b .size-is) ∙ faultless .1
+
+  pub body-few : k ≤ meshOf kind size .links
+  body-few =
+      let r = neither-wanting (eqb (countAt l) 0) (ltb (meshAt l .links) (countAt l)) refl (faultless .2) in
+      omega (arith, ltb-false (meshAt l .links) (countAt l) (r .1), ap (λ (m : Mesh). m .links) mesh-is, b .count-is)
+
+  pub body-long : HEAD ≤ length l
+  body-long = ltb-false (length l) HEAD (neither-wanting (ltb (length l) HEAD) (not (eqb (lengthAt l) (length l - 4))) refl (faultless .0) .0)
+
+  -- a longest path of code, which is one less than the places
+  module _ {w : ℕ} (e : w ≡ width (meshOf kind size)) where
+    pub longest-is : w - 1 ≡ meshOf kind size .longest
+    longest-is = omega (arith, e)
+
+    pub body-small : w - 1 ≤ 206
+    body-small = omega (arith, e, known-small kind size body-known .1)
+
+  -- what is told of the paths is told of the sheet
+  pub body-checked : (r : Reading) → readingTold r ≡ sheetTold l (pathsAgainst l) → readingTold r ≡ sheetTold l (checkAgainst l)
+  body-checked r t = t ∙ ap (λ (o : Option Flaw). sheetTold l (before o (pathsAgainst l))) (sym (b .head))

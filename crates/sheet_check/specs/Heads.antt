@@ -1,0 +1,68 @@
+-- Why a sheet's head is read as the definition says: its tests one by one. Assumes nothing.
+use Prim.Native.Nat.{ℕ, _-_, _≤_, _<_}
+use mathlib.Core.Path.{_≡_, refl, sym, ap, ap₂, _∙_}
+use mathlib.Core.Bool.{Bool, true, false, not}
+use mathlib.Core.Logic.{_≢_}
+use mathlib.Core.List.{List}
+use mathlib.Core.Option.{none, some}
+use lib.Dec.{eqb, ltb}
+use lib.ListN.{length}
+use borrow.Author.Tests.{lt-ltb, le-ltb, eq-eqb, ne-eqb}
+use Rattle.scan.specs.Scan.{pick}
+use Rattle.mesh.specs.Kinds.{known}
+use Rattle.sheet.specs.Format.{VERSION, HEAD, lengthAt, versionAt, kindAt, sizeAt, countAt}
+use Rattle.sheet.specs.Says.{flawed}
+use Rattle.sheet.specs.declared.Flaw.the-variants as flaw
+use Rattle.sheet_check.specs.Says.{cut, badCount, countAgainst, meshAt, headAgainst}
+
+-- ---- how many paths
+
+module _ (links k : ℕ) where
+  count-is : (b : Bool) → badCount links k ≡ b → flawed b flaw.Paths none ≡ countAgainst links k
+  count-is b e = ap (λ (x : Bool). flawed x flaw.Paths none) (sym e)
+
+  pub count-none : k ≡ 0 → some flaw.Paths ≡ countAgainst links k
+  count-none e = count-is true (ap (λ (b : Bool). pick b true (ltb links k)) (eq-eqb k 0 e))
+
+  pub count-many : k ≢ 0 → links < k → some flaw.Paths ≡ countAgainst links k
+  count-many ne h = count-is true (ap (λ (b : Bool). pick b true (ltb links k)) (ne-eqb k 0 ne) ∙ lt-ltb links k h)
+
+  pub count-fine : k ≢ 0 → k ≤ links → none ≡ countAgainst links k
+  count-fine ne h = count-is false (ap (λ (b : Bool). pick b true (ltb links k)) (ne-eqb k 0 ne) ∙ le-ltb links k h)
+
+-- ---- the head
+
+module _ (l : List ℕ) where
+  head-is : {a b c : Bool} → cut l ≡ a → not (eqb (versionAt l) VERSION) ≡ b → not (known (kindAt l) (sizeAt l)) ≡ c
+      → flawed a flaw.Cut (flawed b flaw.Version (flawed c flaw.NoMesh (countAgainst (meshAt l .links) (countAt l)))) ≡ headAgainst l
+  head-is {a} {b} {c} p q r =
+      ap (λ (x : Bool). flawed x flaw.Cut (flawed b flaw.Version (flawed c flaw.NoMesh (countAgainst (meshAt l .links) (countAt l))))) (sym p)
+      ∙ ap₂ (λ (x y : Bool). flawed (cut l) flaw.Cut (flawed x flaw.Version (flawed y flaw.NoMesh (countAgainst (meshAt l .links) (countAt l))))) (sym q) (sym r)
+
+  cut-is : (b : Bool) → ltb (length l) HEAD ≡ b → pick b true (not (eqb (lengthAt l) (length l - 4))) ≡ cut l
+  cut-is b e = ap (λ (x : Bool). pick x true (not (eqb (lengthAt l) (length l - 4)))) (sym e)
+
+  pub head-few : length l < HEAD → some flaw.Cut ≡ headAgainst l
+  head-few h = head-is (sym (cut-is true (lt-ltb (length l) HEAD h))) refl refl
+
+  -- the length field, as code has it
+  module _ (h : HEAD ≤ length l) {told : ℕ} (e : told ≡ lengthAt l) where
+    long-is : (b : Bool) → eqb (lengthAt l) (length l - 4) ≡ b → cut l ≡ not b
+    long-is b t = sym (cut-is false (le-ltb (length l) HEAD h)) ∙ ap not t
+
+    pub head-long : told ≢ length l - 4 → some flaw.Cut ≡ headAgainst l
+    head-long ne = head-is (long-is false (ne-eqb (lengthAt l) (length l - 4) (λ t. ne (e ∙ t)))) refl refl
+
+    module _ (t : told ≡ length l - 4) where
+      uncut : cut l ≡ false
+      uncut = long-is true (eq-eqb (lengthAt l) (length l - 4) (sym e ∙ t))
+
+      pub head-version : versionAt l ≢ VERSION → some flaw.Version ≡ headAgainst l
+      head-version ne = head-is uncut (ap not (ne-eqb (versionAt l) VERSION ne)) refl
+
+      module _ (v : versionAt l ≡ VERSION) {r : Bool} (k : r ≡ known (kindAt l) (sizeAt l)) where
+        pub head-unknown : r ≡ false → some flaw.NoMesh ≡ headAgainst l
+        head-unknown f = head-is uncut (ap not (eq-eqb (versionAt l) VERSION v)) (ap not (sym k ∙ f))
+
+        pub head-known : r ≡ true → countAgainst (meshAt l .links) (countAt l) ≡ headAgainst l
+        head-known f = head-is uncut (ap not (eq-eqb (versionAt l) VERSION v)) (ap not (sym k ∙ f))

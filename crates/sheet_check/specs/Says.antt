@@ -1,0 +1,109 @@
+-- What the check of a sheet tells: what stands against it in its order (`headAgainst`, `pathsAgainst`, together `checkAgainst`), and else the mesh, the
+-- source and how many paths (`sheetTold`). Assumes nothing.
+use Prim.Native.Nat.{ℕ, _-_}
+use mathlib.Core.Bool.{Bool, true, false, not}
+use mathlib.Core.List.{List}
+use mathlib.Core.Option.{Option, none, some}
+use lib.Dec.{eqb, ltb}
+use lib.ListN.{length}
+use Rattle.scan.specs.Scan.{pick}
+use Rattle.paths.specs.Mesh.{Mesh}
+use Rattle.mesh.specs.Kinds.{kindOf, meshOf, known}
+use Rattle.judge.specs.Says.{Ruling, numberOf, judgeTold}
+use Rattle.sheet.specs.Format.{VERSION, HEAD, lengthAt, versionAt, kindAt, sizeAt, countAt, sourceAt, pathsAt, placesOf, countsOf, targetsOf}
+use Rattle.sheet.specs.Says.{flawNumber, flawPath, flawed, before}
+use Rattle.sheet.specs.declared.Flaw.{Flaw}
+use Rattle.sheet.specs.declared.Flaw.the-variants as flaw
+use Rattle.sheet_take.specs.Says.{looked}
+use Rattle.sheet_check.specs.declared.Reading.{Reading}
+use Rattle.sheet_check.specs.declared.Reading.the-variants as reading
+
+-- number and path; kind, size, source and how many paths
+pub data ReadTold : Type 0 where
+  reads : (number path kind size source k : ℕ) → ReadTold
+
+abbrev pub readNumber : ReadTold → ℕ
+readNumber (reads n i kind size s k) = n
+
+abbrev pub readPath : ReadTold → ℕ
+readPath (reads n i kind size s k) = i
+
+abbrev pub readKind : ReadTold → ℕ
+readKind (reads n i kind size s k) = kind
+
+abbrev pub readSize : ReadTold → ℕ
+readSize (reads n i kind size s k) = size
+
+abbrev pub readSource : ReadTold → ℕ
+readSource (reads n i kind size s k) = s
+
+abbrev pub readCount : ReadTold → ℕ
+readCount (reads n i kind size s k) = k
+
+abbrev pub tellRead : Option Flaw → (kind size source k : ℕ) → ReadTold
+tellRead none kind size s k = reads 0 0 kind size s k
+tellRead (some f) kind size s k = reads (flawNumber f) (flawPath f) 0 0 0 0
+
+abbrev pub readingTold : Reading → ReadTold
+readingTold (reading.Fan m s k) = tellRead none (m .kind) (m .size) s k
+readingTold (reading.Refused f) = tellRead (some f) 0 0 0 0
+
+-- 30: too few bytes for the head, or a length that is not that of what follows it
+abbrev pub cut : List ℕ → Bool
+cut l = pick (ltb (length l) HEAD) true (not (eqb (lengthAt l) (length l - 4)))
+
+-- 33
+abbrev pub badCount : (links k : ℕ) → Bool
+badCount links k = pick (eqb k 0) true (ltb links k)
+
+abbrev pub countAgainst : (links k : ℕ) → Option Flaw
+countAgainst links k = flawed (badCount links k) flaw.Paths none
+
+-- what the judge says of paths from s
+abbrev pub rulingOf : (kind size s : ℕ) (ps : List (List ℕ)) → Ruling
+rulingOf kind size s ps = judgeTold (kindOf kind) size s (targetsOf s ps) (placesOf s (meshOf kind size .longest) ps) (countsOf ps) false
+
+module _ (l : List ℕ) where
+  abbrev pub meshAt : Mesh
+  meshAt = meshOf (kindAt l) (sizeAt l)
+
+  -- the paths, and how they are lent
+  abbrev pub sheetPaths : List (List ℕ)
+  sheetPaths = pathsAt l HEAD (countAt l)
+
+  abbrev pub sheetTargets : List ℕ
+  sheetTargets = targetsOf (sourceAt l) sheetPaths
+
+  abbrev pub sheetPlaces : List ℕ
+  sheetPlaces = placesOf (sourceAt l) (meshAt .longest) sheetPaths
+
+  abbrev pub sheetCounts : List ℕ
+  sheetCounts = countsOf sheetPaths
+
+  -- 30, 31, 32, 33
+  abbrev pub headAgainst : Option Flaw
+  headAgainst =
+      flawed (cut l) flaw.Cut
+      (flawed (not (eqb (versionAt l) VERSION)) flaw.Version
+      (flawed (not (known (kindAt l) (sizeAt l))) flaw.NoMesh
+      (countAgainst (meshAt .links) (countAt l))))
+
+  -- what the judge says of the request and the paths
+  abbrev pub sheetRuling : Ruling
+  sheetRuling = rulingOf (kindAt l) (sizeAt l) (sourceAt l) sheetPaths
+
+  -- 35: they fail the judge
+  abbrev pub unjudged : Bool
+  unjudged = not (eqb (numberOf sheetRuling) 0)
+
+  -- 30 and 34 path by path, 36, 35
+  abbrev pub pathsAgainst : Option Flaw
+  pathsAgainst = before (looked (meshAt .longest) l HEAD 0 (countAt l)) (flawed unjudged flaw.NotAFan none)
+
+  -- what stands against a sheet of which nothing is taken out
+  abbrev pub checkAgainst : Option Flaw
+  checkAgainst = before headAgainst pathsAgainst
+
+  -- what is told where so much stands against it
+  abbrev pub sheetTold : Option Flaw → ReadTold
+  sheetTold against = tellRead against (kindAt l) (sizeAt l) (sourceAt l) (countAt l)

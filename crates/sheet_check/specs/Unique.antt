@@ -1,0 +1,28 @@
+-- The promise of the check leaves one result (`check-unique`): results that tell the same are the same (`reading-unique`). Assumes nothing.
+use Prim.Native.Nat.{ℕ}
+use mathlib.Core.Path.{_≡_, refl, sym, ap, _∙_}
+use mathlib.Core.Bool.{Bool}
+use mathlib.Core.List.{List}
+use lib.Dec.{eqb}
+use Rattle.scan.specs.Scan.{pick}
+use Rattle.sheet.specs.Flaws.{flawAt, flaw-back, flaw-some}
+use Rattle.sheet.specs.Says.{flawNumber, flawPath}
+use Rattle.sheet_check.specs.Says.{ReadTold, reads, readingTold, checkAgainst, sheetTold}
+use Rattle.sheet_check.specs.declared.Reading.{Reading}
+use Rattle.sheet_check.specs.declared.Reading.the-variants as reading
+
+readingOf : ReadTold → Reading
+readingOf (reads n i kind size s k) = pick (eqb n 0) (reading.Fan (record { kind = kind; size = size }) s k) (reading.Refused (flawAt n i))
+
+reading-back : (r : Reading) → readingOf (readingTold r) ≡ r
+unfolding readingOf
+reading-back (reading.Fan m s k) = refl
+reading-back (reading.Refused f) =
+    ap (λ (b : Bool). pick b (reading.Fan (record { kind = 0; size = 0 }) 0 0) (reading.Refused (flawAt (flawNumber f) (flawPath f)))) (flaw-some f)
+    ∙ ap reading.Refused (flaw-back f)
+
+pub reading-unique : (a b : Reading) → readingTold a ≡ readingTold b → a ≡ b
+reading-unique a b e = sym (reading-back a) ∙ ap readingOf e ∙ reading-back b
+
+pub check-unique : (l : List ℕ) (a b : Reading) → readingTold a ≡ sheetTold l (checkAgainst l) → readingTold b ≡ sheetTold l (checkAgainst l) → a ≡ b
+check-unique l a b p q = reading-unique a b (p ∙ sym q)

@@ -1,0 +1,68 @@
+// The paths after the head of a sheet, looked through and then judged.
+ghost use mathlib.Core.Path.{_≡_};
+ghost use lib.ListN.{length};
+ghost use Rattle.judge.specs.Says.{verdictTold};
+ghost use Rattle.sheet.specs.Format.{HEAD, pathsAt};
+ghost use Rattle.sheet_check.specs.Says.{readingTold, sheetTold, pathsAgainst, rulingOf};
+ghost use Rattle.sheet_check.specs.Needs.{Bodied, Judgeable};
+use crate::Reading;
+use judge::Verdict;
+use mesh::Mesh;
+use sheet::Flaw;
+use sheet_take::Looked;
+
+// The judge's verdict on the k paths, which were looked through, and on what they are asked for. They are taken into the slices lent for that.
+fn judged_in(
+    mesh: Mesh,
+    source: u64,
+    longest: usize,
+    k: usize,
+    bytes: &[u8],
+    places: &mut [u64],
+    counts: &mut [u64],
+    targets: &mut [u64],
+) -> Verdict
+    requires { ⌜ Judgeable (now bytes) (mesh .kind) (mesh .size) longest k (length (now places)) (length (now counts)) (length (now targets)) ⌝ }
+    ensures { λ r. ⌜ verdictTold r ≡ rulingOf (mesh .kind) (mesh .size) source (pathsAt (now (bytes .entry)) HEAD k) ⌝ }
+{
+    sheet_take::take_paths(bytes, source, longest, k, places, counts, targets);
+    let end = k * (longest + 1);
+    judge::judge(mesh, source, &targets[..k], &places[..end], &counts[..k])
+}
+
+// The same, in room of its own: 32 paths of a cube take 1,088 places, and 6 of a two-level mesh 1,242.
+fn judged(mesh: Mesh, source: u64, longest: usize, k: usize, bytes: &[u8]) -> Verdict
+    requires { ⌜ Judgeable (now bytes) (mesh .kind) (mesh .size) longest k 1242 32 32 ⌝ }
+    ensures { λ r. ⌜ verdictTold r ≡ rulingOf (mesh .kind) (mesh .size) source (pathsAt (now (bytes .entry)) HEAD k) ⌝ }
+{
+    let mut places = [0u64; 1242];
+    let mut counts = [0u64; 32];
+    let mut targets = [0u64; 32];
+    judged_in(
+        mesh,
+        source,
+        longest,
+        k,
+        bytes,
+        &mut places,
+        &mut counts,
+        &mut targets,
+    )
+}
+
+// The k paths after a head that tells of them: what is wrong with their bytes, and then whether they pass the judge.
+pub fn check_paths(mesh: Mesh, source: u64, k: usize, bytes: &[u8]) -> Reading
+    requires { ⌜ Bodied (now bytes) (mesh .kind) (mesh .size) source k ⌝ }
+    ensures { λ r. ⌜ readingTold r ≡ sheetTold (now (bytes .entry)) (pathsAgainst (now (bytes .entry))) ⌝ }
+{
+    let longest = mesh::places_in(mesh) - 1;
+    let looked = sheet_take::look(longest, bytes, k);
+    if let Looked::Flawed(f) = looked {
+        return Reading::Refused(f);
+    }
+    let verdict = judged(mesh, source, longest as usize, k, bytes);
+    if verdict.number() == 0 {
+        return Reading::Fan(mesh, source, k);
+    }
+    Reading::Refused(Flaw::NotAFan)
+}

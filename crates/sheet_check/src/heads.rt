@@ -1,0 +1,47 @@
+// The head of a sheet read.
+ghost use mathlib.Core.Path.{_≡_};
+ghost use mathlib.Core.Bool.{true};
+ghost use Rattle.mesh.specs.Kinds.{meshOf, known};
+ghost use Rattle.sheet_check.specs.Says.{readingTold, tellRead, sheetTold, headAgainst, countAgainst};
+use crate::Reading;
+use mesh::Mesh;
+use sheet::Flaw;
+
+// The mesh, the source and how many paths, where so many can be asked for.
+fn counted(mesh: Mesh, source: u64, k: usize) -> Reading
+    requires { ⌜ known (mesh .kind) (mesh .size) ≡ true ⌝ }
+    ensures { λ r. ⌜ readingTold r ≡ tellRead (countAgainst (meshOf (mesh .kind) (mesh .size) .links) k) (mesh .kind) (mesh .size) source k ⌝ }
+{
+    if k == 0 {
+        return Reading::Refused(Flaw::Paths);
+    }
+    if mesh::links_in(mesh) < k as u64 {
+        return Reading::Refused(Flaw::Paths);
+    }
+    Reading::Fan(mesh, source, k)
+}
+
+// What the first 16 bytes tell, or what is wrong with them.
+pub fn head(bytes: &[u8]) -> Reading
+    ensures { λ r. ⌜ readingTold r ≡ sheetTold (now (bytes .entry)) (headAgainst (now (bytes .entry))) ⌝ }
+{
+    let n = bytes.len();
+    if n < 16 {
+        return Reading::Refused(Flaw::Cut);
+    }
+    let told = octets::number(bytes, 0, 4);
+    if told != (n - 4) as u64 {
+        return Reading::Refused(Flaw::Cut);
+    }
+    if bytes[4] != 1 {
+        return Reading::Refused(Flaw::Version);
+    }
+    let mesh = Mesh {
+        kind: bytes[5] as u64,
+        size: bytes[6] as u64,
+    };
+    if mesh.known() {
+        return counted(mesh, octets::number(bytes, 8, 8), bytes[7] as usize);
+    }
+    Reading::Refused(Flaw::NoMesh)
+}

@@ -1,0 +1,4 @@
+-- The paths of a sheet written.
+pub mod Needs
+pub mod Total
+pub mod Putting

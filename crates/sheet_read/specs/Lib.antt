@@ -1,0 +1,4 @@
+-- Sheets read into lent slices: what the reader promises, and why it keeps it.
+pub mod Says
+pub mod Filling
+pub mod Unique

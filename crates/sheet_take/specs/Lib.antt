@@ -1,0 +1,6 @@
+-- The paths of a sheet looked through and taken out.
+pub mod Says
+pub mod Needs
+pub mod Looking
+pub mod Running
+pub mod Taking

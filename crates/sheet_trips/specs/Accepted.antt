@@ -1,0 +1,104 @@
+-- When nothing stands against reading a sheet (`Accepted`): the reader's tests in their order, as facts, there and back (`accepted`, `accepts`); and
+-- the writer's (`write-granted`, `write-grants`). Assumes nothing.
+use Prim.Native.Nat.{ℕ, _-_, _*_, _≤_}
+use mathlib.Core.Path.{_≡_, refl, ap, _∙_}
+use mathlib.Core.Bool.{Bool, true, false, not}
+use mathlib.Core.Logic.{_≢_}
+use mathlib.Core.List.{List}
+use mathlib.Core.Option.{Option, none, some}
+use lib.Dec.{eqb, ltb}
+use lib.ListN.{length}
+use borrow.Author.Tests.{ltb-false, le-ltb, eqb-true, eqb-false, eq-eqb, ne-eqb, not-false}
+use Rattle.scan.specs.Scan.{pick}
+use Rattle.paths.specs.Mesh.{width}
+use Rattle.mesh.specs.Kinds.{kindOf, known}
+use Rattle.mesh.specs.Requests.{neither-wanting, room-enough}
+use Rattle.mesh.specs.Says.{short}
+use Rattle.judge.specs.Alike.{enough}
+use Rattle.judge.specs.Says.{numberOf, judgeTold}
+use Rattle.sheet.specs.Flaws.{flawed-none, before-none, no-flaw, none-flawed, none-before}
+use Rattle.sheet.specs.Format.{VERSION, HEAD, lengthAt, versionAt, kindAt, sizeAt, countAt, sourceAt}
+use Rattle.sheet.specs.Says.{flawed}
+use Rattle.sheet.specs.declared.Flaw.{Flaw}
+use Rattle.sheet.specs.declared.Flaw.the-variants as flaw
+use Rattle.sheet_take.specs.Says.{looked}
+use Rattle.sheet_check.specs.Says.{cut, badCount, meshAt, sheetTargets, sheetPlaces, sheetCounts, headAgainst, unjudged}
+use Rattle.sheet_read.specs.Says.{lacking, readAgainst}
+
+pub record Accepted (l : List ℕ) (places counts targets : ℕ) : Type 0 where
+  -- 30, 31, 32, 33
+  pub long : HEAD ≤ length l
+  pub counted : lengthAt l ≡ length l - 4
+  pub version : versionAt l ≡ VERSION
+  pub known-mesh : known (kindAt l) (sizeAt l) ≡ true
+  pub some-path : countAt l ≢ 0
+  pub few : countAt l ≤ meshAt l .links
+  -- 8
+  pub room : countAt l * width (meshAt l) ≤ places
+  pub room-counts : countAt l ≤ counts
+  pub room-targets : countAt l ≤ targets
+  -- 34, 30, 36; 35
+  pub looks : looked (meshAt l .longest) l HEAD 0 (countAt l) ≡ none
+  pub is-fan : numberOf (judgeTold (kindOf (kindAt l)) (sizeAt l) (sourceAt l) (sheetTargets l) (sheetPlaces l) (sheetCounts l) false) ≡ 0
+
+neither : {a b : Bool} → a ≡ false → b ≡ false → pick a true b ≡ false
+neither {a} {b} e f = ap (λ (a : Bool). pick a true b) e ∙ f
+
+module _ (l : List ℕ) (places counts targets : ℕ) where
+  pub accepted : readAgainst l places counts targets ≡ none → Accepted l places counts targets
+  accepted e =
+      let k = countAt l in
+      let m = meshAt l in
+      let h = before-none (headAgainst l) _ e in
+      let cut-not = flawed-none (cut l) flaw.Cut _ (h .0) in
+      let version-not = flawed-none (not (eqb (versionAt l) VERSION)) flaw.Version _ (cut-not .1) in
+      let mesh-not = flawed-none (not (known (kindAt l) (sizeAt l))) flaw.NoMesh _ (version-not .1) in
+      let paths-not = flawed-none (badCount (m .links) k) flaw.Paths none (mesh-not .1) in
+      let room-not = flawed-none (lacking l places counts targets) flaw.NoRoom _ (h .1) in
+      let look-not = before-none (looked (m .longest) l HEAD 0 k) _ (room-not .1) in
+      let fan-not = flawed-none (unjudged l) flaw.NotAFan none (look-not .1) in
+      let c = neither-wanting (ltb (length l) HEAD) (not (eqb (lengthAt l) (length l - 4))) refl (cut-not .0) in
+      let p = neither-wanting (eqb k 0) (ltb (m .links) k) refl (paths-not .0) in
+      let r = neither-wanting (short m k places counts) (ltb targets k) refl (room-not .0) in
+      let held = room-enough m k places counts (r .0) in
+      record {
+        long = ltb-false (length l) HEAD (c .0);
+        counted = eqb-true (lengthAt l) (length l - 4) (not-false _ (c .1));
+        version = eqb-true (versionAt l) VERSION (not-false _ (version-not .0));
+        known-mesh = not-false (known (kindAt l) (sizeAt l)) (mesh-not .0);
+        some-path = eqb-false k 0 (p .0);
+        few = ltb-false (m .links) k (p .1);
+        room = held .0;
+        room-counts = held .1;
+        room-targets = ltb-false targets k (r .1);
+        looks = look-not .0;
+        is-fan = eqb-true _ 0 (not-false _ (fan-not .0));
+      }
+
+  pub accepts : Accepted l places counts targets → readAgainst l places counts targets ≡ none
+  accepts a =
+      let k = countAt l in
+      let m = meshAt l in
+      none-before
+      (none-flawed flaw.Cut (neither (le-ltb (length l) HEAD (a .long)) (ap not (eq-eqb (lengthAt l) (length l - 4) (a .counted))))
+      (none-flawed flaw.Version (ap not (eq-eqb (versionAt l) VERSION (a .version)))
+      (none-flawed flaw.NoMesh (ap not (a .known-mesh))
+      (none-flawed flaw.Paths (neither (ne-eqb k 0 (a .some-path)) (le-ltb (m .links) k (a .few))) refl))))
+      (none-flawed flaw.NoRoom (neither (enough m k places counts (a .room) (a .room-counts)) (le-ltb targets k (a .room-targets)))
+      (none-before (a .looks)
+      (none-flawed flaw.NotAFan (ap not (eq-eqb _ 0 (a .is-fan))) refl)))
+
+-- what stands against writing so many bytes into room for so many, where the judge tells n
+abbrev pub writeFlaw : (n bytes room : ℕ) → Option Flaw
+writeFlaw n bytes room = pick (eqb n 0) (flawed (ltb room bytes) flaw.NoRoom none) (pick (eqb n 8) (some flaw.NoRoom) (some flaw.NotAFan))
+
+pub write-granted : (n bytes room : ℕ) → writeFlaw n bytes room ≡ none → (n ≡ 0) × (bytes ≤ room)
+write-granted n bytes room e = go (eqb n 0) (eqb n 8) refl e
+  where
+    go : (a b : Bool) → eqb n 0 ≡ a → pick a (flawed (ltb room bytes) flaw.NoRoom none) (pick b (some flaw.NoRoom) (some flaw.NotAFan)) ≡ none → (n ≡ 0) × (bytes ≤ room)
+    go true b f g = (eqb-true n 0 f, ltb-false room bytes (flawed-none (ltb room bytes) flaw.NoRoom none g .0))
+    go false true f g = no-flaw g
+    go false false f g = no-flaw g
+
+pub write-grants : (n bytes room : ℕ) → n ≡ 0 → bytes ≤ room → writeFlaw n bytes room ≡ none
+write-grants n bytes room e h = simp (eq-eqb n 0 e, le-ltb room bytes h)

@@ -1,0 +1,103 @@
+-- Bytes that were read are written again: relays (`relays-again`), the paths of a sheet that nothing stands against (`paths-again`), and an
+-- accepted sheet whole (`sheet-again`); so sheets that hold the same fan are the same (`same-sheet`). Assumes nothing.
+use Prim.Native.Nat.{ℕ, zero, suc, _+_, _*_, _≤_}
+use mathlib.Core.Path.{_≡_, refl, sym, ap, ap₂, _∙_}
+use mathlib.Core.Bool.{not}
+use mathlib.Core.List.{List, _∷_, _++_, append-assoc}
+use mathlib.Core.Option.{none}
+use native.Mathlib.Omega.{arith}
+use lib.Dec.{eqb}
+use lib.ListN.{length, take, drop, length-drop, take-append-drop}
+use lib.Seq.{take-add, drop-drop, drop-cons, drop-length}
+use borrow.Author.Tests.{eqb-true, not-false}
+use Rattle.octets.specs.Big.{Bytes, big, big-number}
+use Rattle.sheet.specs.Flaws.{flawed-none, before-none}
+use Rattle.sheet.specs.Format.{HEAD, fields, relaysBytes, pathBytes, pathsBytes, bodyOf, sheetOf, versionAt, kindAt, sizeAt, countAt, sourceAt, hopsAt, after, relaysAt, pathsAt}
+use Rattle.sheet.specs.Lengths.{relays-count, paths-length}
+use Rattle.sheet.specs.Lent.{Within}
+use Rattle.sheet.specs.declared.Flaw.the-variants as flaw
+use Rattle.sheet_take.specs.Looking.{Fine, fine, looked-more}
+use Rattle.sheet_take.specs.Says.{looked, wrongAt}
+use Rattle.sheet_check.specs.Says.{meshAt, sheetPaths}
+use Rattle.sheet_trips.specs.Accepted.{Accepted}
+
+-- ---- paths that nothing stands against
+
+-- one of them, and the rest
+pub looked-first : (longest : ℕ) (l : List ℕ) (at i k : ℕ) → looked longest l at i (suc k) ≡ none → Fine longest l at × (looked longest l (after l at) (suc i) k ≡ none)
+looked-first longest l at i k e =
+    let r = before-none (wrongAt longest l at i) (looked longest l (after l at) (suc i) k) (sym (looked-more longest l at i k) ∙ e) in
+    (fine longest l at i (r .0), r .1)
+
+pub looked-end : (longest : ℕ) (l : List ℕ) (at i : ℕ) → looked longest l at i 0 ≡ none → at ≡ length l
+unfolding looked
+looked-end longest l at i e = eqb-true at (length l) (not-false _ (flawed-none (not (eqb at (length l))) flaw.LeftOver none e .0))
+
+-- no path is longer than the longest
+pub looked-within : (longest : ℕ) (l : List ℕ) (at i k : ℕ) → looked longest l at i k ≡ none → Within longest (pathsAt l at k)
+unfolding pathsAt
+looked-within longest l at i zero e = tt
+looked-within longest l at i (suc k) e =
+    let r = looked-first longest l at i k e in
+    (omega (arith, relays-count l (at + 2) (hopsAt l at), r .0 .short), looked-within longest l (after l at) (suc i) k (r .1))
+
+module _ (l : List ℕ) (b : Bytes l) where
+  -- n bytes and what follows them, after a place
+  take-more : (at n k : ℕ) → take n (drop at l) ++ take k (drop (at + n) l) ≡ take (n + k) (drop at l)
+  take-more at n k = ap (λ (r : List ℕ). take n (drop at l) ++ take k r) (sym (drop-drop n at l)) ∙ sym (take-add n k (drop at l))
+
+  take-rest : (at n : ℕ) → take n (drop at l) ++ drop (at + n) l ≡ drop at l
+  take-rest at n = ap (λ (r : List ℕ). take n (drop at l) ++ r) (sym (drop-drop n at l)) ∙ take-append-drop n (drop at l)
+
+  pub relays-again : (at n : ℕ) → at + n * 8 ≤ length l → relaysBytes (relaysAt l at n) ≡ take (n * 8) (drop at l)
+  unfolding relaysBytes relaysAt
+  relays-again at zero h = refl
+  relays-again at (suc n) h =
+      let more : 8 + n * 8 ≡ suc n * 8 = omega arith in
+      ap₂ _++_ (big-number l b at 8 (omega arith)) (relays-again (at + 8) n (omega arith)) ∙ take-more at 8 (n * 8) ∙ ap (λ (i : ℕ). take i (drop at l)) more
+
+  path-again : (at : ℕ) → after l at ≤ length l → pathBytes (relaysAt l (at + 2) (hopsAt l at)) ≡ take (2 + hopsAt l at * 8) (drop at l)
+  unfolding pathBytes
+  path-again at h =
+      let n = hopsAt l at in
+      ap (λ (c : ℕ). big 2 c ++ relaysBytes (relaysAt l (at + 2) n)) (relays-count l (at + 2) n)
+      ∙ ap₂ _++_ (big-number l b at 2 (omega arith)) (relays-again (at + 2) n (omega arith)) ∙ take-more at 2 (n * 8)
+
+  -- the paths are all that follows
+  pub paths-again : (longest at i k : ℕ) → looked longest l at i k ≡ none → pathsBytes (pathsAt l at k) ≡ drop at l
+  unfolding pathsBytes pathsAt
+  paths-again longest at i zero e = sym (drop-length l) ∙ ap (λ (j : ℕ). drop j l) (sym (looked-end longest l at i e))
+  paths-again longest at i (suc k) e =
+      let r = looked-first longest l at i k e in
+      let past : after l at ≡ at + (2 + hopsAt l at * 8) = omega arith in
+      ap₂ _++_ (path-again at (r .0 .within)) (paths-again longest (after l at) (suc i) k (r .1) ∙ ap (λ (j : ℕ). drop j l) past)
+      ∙ take-rest at (2 + hopsAt l at * 8)
+
+  -- ---- a sheet
+
+  module _ (places counts targets : ℕ) (a : Accepted l places counts targets) where
+    body-again : bodyOf (kindAt l) (sizeAt l) (sourceAt l) (sheetPaths l) ≡ drop 4 l
+    unfolding bodyOf
+    body-again =
+        let long = a .long in
+        append-assoc (fields (kindAt l) (sizeAt l) (length (sheetPaths l))) (big 8 (sourceAt l)) (pathsBytes (sheetPaths l))
+        ∙ ap (λ (r : List ℕ). fields (kindAt l) (sizeAt l) (length (sheetPaths l)) ++ r)
+        (ap₂ _++_ (big-number l b 8 8 (omega arith)) (paths-again (meshAt l .longest) HEAD 0 (countAt l) (a .looks)) ∙ take-rest 8 8)
+        ∙ ap₂ (λ (v k : ℕ). v ∷ kindAt l ∷ sizeAt l ∷ k ∷ drop 8 l) (sym (a .version)) (paths-length l HEAD (countAt l))
+        ∙ sym (drop-cons l 4 0 (omega arith) ∙ ap (λ (r : List ℕ). versionAt l ∷ r) (drop-cons l 5 0 (omega arith)
+        ∙ ap (λ (r : List ℕ). kindAt l ∷ r) (drop-cons l 6 0 (omega arith) ∙ ap (λ (r : List ℕ). sizeAt l ∷ r) (drop-cons l 7 0 (omega arith)))))
+
+    pub sheet-again : sheetOf (kindAt l) (sizeAt l) (sourceAt l) (sheetPaths l) ≡ l
+    unfolding sheetOf
+    sheet-again =
+        let long = a .long in
+        ap (λ (r : List ℕ). big 4 (length r) ++ r) body-again
+        ∙ ap (λ (n : ℕ). big 4 n ++ drop 4 l) (length-drop 4 l ∙ sym (a .counted))
+        ∙ ap (λ (r : List ℕ). r ++ drop 4 l) (big-number l b 0 4 (omega arith)) ∙ take-rest 0 4
+
+-- sheets that hold the same fan are the same
+pub same-sheet : (l r : List ℕ) → Bytes l → Bytes r → (p c t q d u : ℕ) → Accepted l p c t → Accepted r q d u → kindAt l ≡ kindAt r → sizeAt l ≡ sizeAt r
+    → sourceAt l ≡ sourceAt r → sheetPaths l ≡ sheetPaths r → l ≡ r
+same-sheet l r b e p c t q d u a f kind size source paths =
+    sym (sheet-again l b p c t a) ∙ ap₂ (λ (x y : ℕ). sheetOf x y (sourceAt l) (sheetPaths l)) kind size
+    ∙ ap₂ (sheetOf (kindAt r) (sizeAt r)) source paths ∙ sheet-again r e q d u f

@@ -1,0 +1,156 @@
+-- Main theorem `write-read`: a fan that is written reads back the same, request, places and counts. Assumes nothing.
+use Prim.Native.Nat.{ℕ, _+_, _*_, _^_, _≤_, _<_}
+use mathlib.Core.Path.{_≡_, sym, ap, ap₂, _∙_, subst}
+use mathlib.Core.Bool.{false}
+use mathlib.Core.List.{List, [], append-nil}
+use mathlib.Core.Option.{none}
+use native.Mathlib.Nat.{mul-le-mul}
+use native.Mathlib.Omega.{arith}
+use lib.ListN.{length, take}
+use lib.Seq.{getD-take, length-take-le}
+use Rattle.paths.specs.Mesh.{Mesh, width}
+use Rattle.mesh.specs.Kinds.{kindOf, meshOf, known}
+use Rattle.mesh.specs.Laws.{known-small, known-relays}
+use Rattle.mesh.specs.Requests.{Fine}
+use Rattle.judge.specs.Says.{numberOf, judgeTold}
+use Rattle.sheet.specs.Format.{HEAD, pathsBytes, sheetOf, kindAt, sizeAt, countAt, sourceAt, pathsAt, placesOf, countsOf, targetsOf, pathsOf}
+use Rattle.sheet.specs.Judging.{Judged, judged, judged-told, judged-fine, judged-same}
+use Rattle.sheet.specs.Lengths.{pathsFrom-length, bytesOf}
+use Rattle.sheet.specs.Lent.{within-of, places-of, counts-of, targets-of}
+use Rattle.sheet.specs.Most.{bytes-most}
+use Rattle.sheet_take.specs.Says.{looked}
+use Rattle.sheet_check.specs.Says.{meshAt, sheetPaths, sheetTargets, sheetPlaces, sheetCounts}
+use Rattle.sheet_read.specs.Says.{readAgainst}
+use Rattle.sheet_trips.specs.Accepted.{Accepted, accepts}
+use Rattle.sheet_trips.specs.Fits.{fan-fits}
+use Rattle.sheet_trips.specs.There.{Fit, Head, pathsAt-there, looked-there, head-there}
+
+-- what the judge tells of a request and slices: 0 of a fan
+abbrev ruling : (kind size s : ℕ) (targets places counts : List ℕ) → ℕ
+ruling kind size s targets places counts = numberOf (judgeTold (kindOf kind) size s targets places counts false)
+
+-- what is read of the sheet of a fan
+pub record ReadsBack (kind size s : ℕ) (targets places counts l : List ℕ) : Type 0 where
+  pub kind-is : kindAt l ≡ kind
+  pub size-is : sizeAt l ≡ size
+  pub source-is : sourceAt l ≡ s
+  pub count-is : countAt l ≡ length targets
+  pub paths-are : sheetPaths l ≡ pathsOf (width (meshOf kind size)) places counts (length targets)
+  pub targets-are : sheetTargets l ≡ targets
+  pub places-are : sheetPlaces l ≡ take (length targets * width (meshOf kind size)) places
+  pub counts-are : sheetCounts l ≡ take (length targets) counts
+  -- nothing stands against it where there is room
+  pub no-flaw : (p c t : ℕ) → length targets * width (meshOf kind size) ≤ p → length targets ≤ c → length targets ≤ t → readAgainst l p c t ≡ none
+
+module _ (kind size s : ℕ) (targets places counts : List ℕ) (e : numberOf (judgeTold (kindOf kind) size s targets places counts false) ≡ 0) where
+  abbrev m : Mesh
+  m = meshOf kind size
+
+  abbrev w : ℕ
+  w = width m
+
+  abbrev k : ℕ
+  k = length targets
+
+  abbrev ps : List (List ℕ)
+  ps = pathsOf w places counts k
+
+  is-judged : Judged (kindOf kind) size s targets places counts
+  is-judged = judged (kindOf kind) size s targets places counts e
+
+  fine : Fine (kindOf kind) size s targets
+  fine = judged-fine (kindOf kind) size s targets is-judged
+
+  few-hops : m .longest ≤ 206
+  few-hops = omega (arith, known-small kind size (fine .known) .1)
+
+  narrow : m .relays ≤ 2 ^ 64
+  narrow = omega (arith, known-relays kind size (fine .known))
+
+  fits : Fit (m .longest) ps
+  fits = fan-fits m s targets places counts narrow (is-judged .fan) (fine .sound .other)
+
+  how-many : length ps ≡ k
+  how-many = pathsFrom-length w places counts 0 k
+
+  few-bytes : 12 + bytesOf ps < 256 ^ 4
+  few-bytes =
+      let within = within-of m s places counts targets (is-judged .fan) in
+      let few : length ps ≤ 32 = omega (arith, how-many, fine .sound .few, known-small kind size (fine .known) .0) in
+      let path : 2 + 8 * m .longest ≤ 1650 = omega (arith, few-hops) in
+      omega (arith, bytes-most (m .longest) ps within, mul-le-mul few path)
+
+  -- the places and counts that are read
+  taken : Judged (kindOf kind) size s targets (take (k * w) places) (take k counts)
+  taken =
+      let room = length-take-le (k * w) places (is-judged .room) in
+      let counted = length-take-le k counts (is-judged .counted) in
+      judged-same (kindOf kind) size s targets places counts (take (k * w) places) (take k counts) is-judged (omega (arith, room)) (omega (arith, counted))
+      (λ j g. getD-take (k * w) places j 0 g) (λ j g. getD-take k counts j 0 g)
+
+  module _ (l : List ℕ) (h : Head kind size s (length ps) (pathsBytes ps) l) where
+    same-mesh : meshAt l ≡ m
+    same-mesh = ap₂ meshOf (h .kind-is) (h .size-is)
+
+    same-count : countAt l ≡ k
+    same-count = h .count-is ∙ how-many
+
+    same-paths : sheetPaths l ≡ ps
+    same-paths =
+        ap (pathsAt l HEAD) (h .count-is)
+        ∙ pathsAt-there (m .longest) (omega (arith, few-hops)) l ps [] HEAD fits (h .long) (h .after-it ∙ sym (append-nil (pathsBytes ps)))
+
+    same-targets : sheetTargets l ≡ targets
+    same-targets = ap₂ targetsOf (h .source-is) same-paths ∙ targets-of m s places counts targets (is-judged .fan)
+
+    same-places : sheetPlaces l ≡ take (k * w) places
+    same-places =
+        ap₂ (λ (u : ℕ) (n : Mesh). placesOf u (n .longest) (sheetPaths l)) (h .source-is) same-mesh ∙ ap (placesOf s (m .longest)) same-paths
+        ∙ places-of m s places counts targets (is-judged .fan) (is-judged .room)
+
+    same-counts : sheetCounts l ≡ take k counts
+    same-counts = ap countsOf same-paths ∙ counts-of m s places counts targets (is-judged .fan) (is-judged .counted)
+
+    looks : looked (meshAt l .longest) l HEAD 0 (countAt l) ≡ none
+    looks =
+        ap₂ (λ (n : Mesh) (c : ℕ). looked (n .longest) l HEAD 0 c) same-mesh (h .count-is)
+        ∙ looked-there (m .longest) (omega (arith, few-hops)) l ps HEAD 0 fits (h .long) (h .after-it)
+
+    -- the judge finds in what is read what it found before
+    is-fan : numberOf (judgeTold (kindOf (kindAt l)) (sizeAt l) (sourceAt l) (sheetTargets l) (sheetPlaces l) (sheetCounts l) false) ≡ 0
+    is-fan =
+        ap₂ (λ (x y : ℕ). ruling x y (sourceAt l) (sheetTargets l) (sheetPlaces l) (sheetCounts l)) (h .kind-is) (h .size-is)
+        ∙ ap₂ (λ (x : ℕ) (t : List ℕ). ruling kind size x t (sheetPlaces l) (sheetCounts l)) (h .source-is) same-targets
+        ∙ ap₂ (ruling kind size s targets) same-places same-counts
+        ∙ judged-told (kindOf kind) size s targets (take (k * w) places) (take k counts) taken
+
+    is-accepted : (p c t : ℕ) → k * w ≤ p → k ≤ c → k ≤ t → Accepted l p c t
+    is-accepted p c t a b d = record {
+      long = h .long;
+      counted = h .counted;
+      version = h .version;
+      known-mesh = ap₂ known (h .kind-is) (h .size-is) ∙ fine .known;
+      some-path = λ z. omega (arith, z, same-count, fine .sound .some-target);
+      few = subst (λ (n : Mesh). countAt l ≤ n .links) (sym same-mesh) (omega (arith, same-count, fine .sound .few));
+      room = subst (λ (n : Mesh). countAt l * width n ≤ p) (sym same-mesh) (subst (λ (c : ℕ). c * w ≤ p) (sym same-count) a);
+      room-counts = omega (arith, same-count);
+      room-targets = omega (arith, same-count);
+      looks = looks;
+      is-fan = is-fan;
+    }
+
+    reads-back : ReadsBack kind size s targets places counts l
+    reads-back = record {
+      kind-is = h .kind-is;
+      size-is = h .size-is;
+      source-is = h .source-is;
+      count-is = same-count;
+      paths-are = same-paths;
+      targets-are = same-targets;
+      places-are = same-places;
+      counts-are = same-counts;
+      no-flaw = λ p c t a b d. accepts l p c t (is-accepted p c t a b d);
+    }
+
+  pub write-read : ReadsBack kind size s targets places counts (sheetOf kind size s ps)
+  write-read = reads-back (sheetOf kind size s ps) (head-there kind size s ps (omega (arith, fine .sound .source, narrow)) few-bytes)

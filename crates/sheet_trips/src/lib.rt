@@ -1,0 +1,1 @@
+// The round trips of sheets: theorems, all in specs/.

@@ -1,0 +1,90 @@
+-- Why `put_sheet` keeps its promise: what it asks of the functions that it calls, and the pieces put together (`put-done`). Assumes nothing.
+use Prim.Native.Nat.{ℕ, _+_, _≤_, _<_}
+use mathlib.Core.Path.{_≡_, refl, sym, ap, ap₂, _∙_, subst}
+use mathlib.Core.Bool.{Bool, true, false}
+use mathlib.Core.List.{List, _++_}
+use mathlib.Core.Option.{Option, none}
+use native.Mathlib.Nat.{zero-add}
+use native.Mathlib.Omega.{arith}
+use native.Mathlib.Decide.{ℕ-discrete}
+use lib.Dec.{ltb}
+use lib.ListN.{length, drop}
+use lib.Seq.{sets, sets-eq}
+use borrow.Author.Tests.{lt-ltb, le-ltb}
+use Rattle.scan.specs.Runs.{sets-append}
+use Rattle.paths.specs.Mesh.{width}
+use Rattle.cube.specs.Sizes.{known-most}
+use Rattle.two.specs.Parts.{known-bounds}
+use Rattle.mesh.specs.Kinds.{CUBE, meshOf}
+use Rattle.mesh.specs.Laws.{known-cube, known-two, known-kind}
+use Rattle.sheet.specs.Format.{pathsBytes, pathsOf}
+use Rattle.sheet.specs.Lengths.{sheet-length, pathsFrom-length}
+use Rattle.sheet.specs.Says.{flawed, settled}
+use Rattle.sheet.specs.declared.Flaw.{Flaw}
+use Rattle.sheet.specs.declared.Flaw.the-variants as flaw
+use Rattle.sheet_put.specs.Needs.{Paths}
+use Rattle.sheet_put.specs.Total.{total, paths-total, total-most}
+use Rattle.sheet_write.specs.Heads.{headBytes, head-length, sheet-is}
+use Rattle.sheet_write.specs.Needs.{Sheeted}
+use Rattle.sheet_write.specs.Says.{wrote, tellWritten, bytes, putAgainst, Put}
+use Rattle.sheet_write.specs.declared.Written.the-variants as written
+
+module _ (kind size s k : ℕ) (places counts out : List ℕ) (a : Sheeted kind size k (length places) counts) where
+  abbrev w : ℕ
+  w = width (meshOf kind size)
+
+  abbrev ps : List (List ℕ)
+  ps = pathsOf w places counts k
+
+  pub put-small : total counts k ≤ 52800
+  put-small = omega (arith, total-most (a .paths .headed) k (omega arith), a .paths .headed .few)
+
+  pub paths-asked : {v : ℕ} → v ≡ w → Paths v k (length places) counts
+  paths-asked e = subst (λ (x : ℕ). Paths x k (length places) counts) (sym e) (a .paths)
+
+  -- kind, size and how many paths take a byte each
+  single : (kind < 256) × (size < 256)
+  single = go (ℕ-discrete kind CUBE)
+    where
+      go : Dec (kind ≡ CUBE) → (kind < 256) × (size < 256)
+      go (yes e) = let most = known-most size refl (known-cube kind size (a .known) e) in (omega arith, omega arith)
+      go (no ne) = let most = known-bounds size (known-two kind size (a .known) ne) .1 in (omega (arith, known-kind kind size (a .known) ne), omega arith)
+
+  module _ {n : ℕ} (e : n ≡ total counts k) where
+    long : length (bytes kind size s k places counts) ≡ n + 16
+    long = sheet-length kind size s ps ∙ ap (λ (x : ℕ). x + 16) (paths-total w places counts k ∙ sym e)
+
+    against-is : (b : Bool) → ltb (length out) (n + 16) ≡ b → putAgainst kind size s k places counts out ≡ flawed b flaw.NoRoom none
+    against-is b f = ap (λ (x : Bool). flawed x flaw.NoRoom none) (ap (ltb (length out)) long ∙ f)
+
+    pub put-refused : length out < n + 16 → Put kind size s k places counts out (written.Refused flaw.NoRoom) out
+    put-refused l =
+        let o = against-is true (lt-ltb (length out) (n + 16) l) in
+        record {
+          told = ap (λ (x : Option Flaw). tellWritten x (length (bytes kind size s k places counts))) (sym o);
+          held = ap (λ (x : Option Flaw). settled x (bytes kind size s k places counts ++ drop (length (bytes kind size s k places counts)) out) out) (sym o);
+        }
+
+    pub put-done : {v : ℕ} {out₁ out₂ : List ℕ} → n + 16 ≤ length out → v ≡ w → out₁ ≡ sets out 0 (headBytes kind size s k n)
+        → out₂ ≡ sets out₁ 16 (pathsBytes (pathsOf v places counts k)) → Put kind size s k places counts out (written.Bytes (n + 16)) out₂
+    put-done {v} {out₁} {out₂} l wide p q =
+        let o = against-is false (le-ltb (length out) (n + 16) l) in
+        record {
+          told = ap (wrote 0) (sym long) ∙ ap (λ (x : Option Flaw). tellWritten x (length (bytes kind size s k places counts))) (sym o);
+          held = whole ∙ ap (λ (x : Option Flaw). settled x (bytes kind size s k places counts ++ drop (length (bytes kind size s k places counts)) out) out) (sym o);
+        }
+      where
+        counted : length ps ≡ k
+        counted = pathsFrom-length w places counts 0 k
+
+        headed : headBytes kind size s k n ≡ headBytes kind size s (length ps) (length (pathsBytes ps))
+        headed = ap₂ (headBytes kind size s) (sym counted) (e ∙ sym (paths-total w places counts k))
+
+        whole : out₂ ≡ bytes kind size s k places counts ++ drop (length (bytes kind size s k places counts)) out
+        whole =
+            q ∙ ap₂ (λ (x : List ℕ) (y : ℕ). sets x 16 (pathsBytes (pathsOf y places counts k))) p wide
+            ∙ ap (λ (x : ℕ). sets (sets out 0 (headBytes kind size s k n)) x (pathsBytes ps)) (sym (head-length kind size s k n) ∙ sym (zero-add (length (headBytes kind size s k n))))
+            ∙ sym (sets-append out 0 (headBytes kind size s k n) (pathsBytes ps))
+            ∙ ap (sets out 0) (ap (λ (x : List ℕ). x ++ pathsBytes ps) headed ∙ sheet-is kind size s ps (single .0) (single .1) (omega (arith, counted, a .paths .headed .few)))
+            ∙ sets-eq (bytes kind size s k places counts) out 0 (omega (arith, long))
+            ∙ ap (λ (x : ℕ). bytes kind size s k places counts ++ drop x out) (zero-add (length (bytes kind size s k places counts)))

@@ -1,0 +1,68 @@
+-- What the writer tells, and what it leaves in the lent slice: of slices that are judged (`Wrote`), and of paths that are known to be a fan (`Put`).
+-- Assumes nothing.
+use Prim.Native.Nat.{ℕ}
+use mathlib.Core.Path.{_≡_}
+use mathlib.Core.Bool.{false}
+use mathlib.Core.List.{List, _++_}
+use mathlib.Core.Option.{Option, none, some}
+use lib.Dec.{eqb, ltb}
+use lib.ListN.{length, drop}
+use Rattle.scan.specs.Scan.{pick}
+use Rattle.paths.specs.Mesh.{width}
+use Rattle.mesh.specs.Kinds.{kindOf, meshOf}
+use Rattle.judge.specs.Says.{numberOf, judgeTold}
+use Rattle.sheet.specs.Format.{sheetOf, pathsOf}
+use Rattle.sheet.specs.Says.{flawNumber, flawed, settled}
+use Rattle.sheet.specs.declared.Flaw.{Flaw}
+use Rattle.sheet.specs.declared.Flaw.the-variants as flaw
+use Rattle.sheet_write.specs.declared.Written.{Written}
+use Rattle.sheet_write.specs.declared.Written.the-variants as written
+
+-- number and the length of the sheet
+pub data WriteTold : Type 0 where
+  wrote : (number bytes : ℕ) → WriteTold
+
+abbrev pub writtenNumber : WriteTold → ℕ
+writtenNumber (wrote n bytes) = n
+
+abbrev pub writtenBytes : WriteTold → ℕ
+writtenBytes (wrote n bytes) = bytes
+
+abbrev pub tellWritten : Option Flaw → ℕ → WriteTold
+tellWritten none n = wrote 0 n
+tellWritten (some f) n = wrote (flawNumber f) 0
+
+abbrev pub writtenTold : Written → WriteTold
+writtenTold (written.Bytes n) = tellWritten none n
+writtenTold (written.Refused f) = tellWritten (some f) 0
+
+-- the sheet of k paths
+abbrev pub bytes : (kind size s k : ℕ) (places counts : List ℕ) → List ℕ
+bytes kind size s k places counts = sheetOf kind size s (pathsOf (width (meshOf kind size)) places counts k)
+
+module _ (kind size s k : ℕ) (places counts out : List ℕ) where
+  abbrev pub putAgainst : Option Flaw
+  putAgainst = flawed (ltb (length out) (length (bytes kind size s k places counts))) flaw.NoRoom none
+
+  -- written where it fits
+  pub record Put (r : Written) (out₁ : List ℕ) : Type 0 where
+    pub told : writtenTold r ≡ tellWritten putAgainst (length (bytes kind size s k places counts))
+    pub held : out₁ ≡ settled putAgainst (bytes kind size s k places counts ++ drop (length (bytes kind size s k places counts)) out) out
+
+module _ (kind size s : ℕ) (targets places counts out : List ℕ) where
+  -- the sheet of the paths
+  abbrev pub sheet : List ℕ
+  sheet = sheetOf kind size s (pathsOf (width (meshOf kind size)) places counts (length targets))
+
+  -- what the judge says: 0 of a fan, 8 where it lacks room, else 35
+  abbrev pub ruled : ℕ
+  ruled = numberOf (judgeTold (kindOf kind) size s targets places counts false)
+
+  abbrev pub writeAgainst : Option Flaw
+  writeAgainst =
+      pick (eqb ruled 0) (flawed (ltb (length out) (length sheet)) flaw.NoRoom none)
+      (pick (eqb ruled 8) (some flaw.NoRoom) (some flaw.NotAFan))
+
+  pub record Wrote (r : Written) (out₁ : List ℕ) : Type 0 where
+    pub told : writtenTold r ≡ tellWritten writeAgainst (length sheet)
+    pub held : out₁ ≡ settled writeAgainst (sheet ++ drop (length sheet) out) out

@@ -1,0 +1,81 @@
+-- Why the writer keeps its promise: a fan can be written (`judged-sheeted`, `fan-sheeted`); what is told by what the judge says (`wrote-fan`, `wrote-short`, `wrote-not`).
+-- Assumes nothing.
+use Prim.Native.Nat.{ℕ}
+use mathlib.Core.Path.{_≡_, sym, ap, _∙_}
+use mathlib.Core.Bool.{Bool}
+use mathlib.Core.List.{List, _++_}
+use mathlib.Core.Logic.{_≢_}
+use mathlib.Core.Option.{Option, some}
+use native.Mathlib.Omega.{arith}
+use lib.Dec.{eqb}
+use lib.ListN.{length, drop}
+use borrow.Author.Tests.{eq-eqb, ne-eqb}
+use Rattle.scan.specs.Scan.{pick}
+use Rattle.mesh.specs.Kinds.{kindOf}
+use Rattle.mesh.specs.Laws.{known-small}
+use Rattle.sheet.specs.Judging.{Judged, judged, judged-fine}
+use Rattle.sheet.specs.Says.{settled}
+use Rattle.sheet.specs.declared.Flaw.{Flaw}
+use Rattle.sheet.specs.declared.Flaw.the-variants as flaw
+use Rattle.sheet_write.specs.Needs.{Sheeted}
+use Rattle.sheet_write.specs.Says.{tellWritten, sheet, ruled, writeAgainst, Wrote, Put, putAgainst}
+use Rattle.sheet_write.specs.declared.Written.{Written}
+use Rattle.sheet_write.specs.declared.Written.the-variants as written
+
+-- what the judge accepts can be written
+pub judged-sheeted : (kind size s : ℕ) (targets places counts : List ℕ) → Judged (kindOf kind) size s targets places counts → Sheeted kind size (length targets) (length places) counts
+judged-sheeted kind size s targets places counts j =
+    let fine = judged-fine (kindOf kind) size s targets j in
+    let small = known-small kind size (fine .known) in
+    record {
+      known = fine .known;
+      paths = record {
+        headed = record {
+          few = omega (arith, fine .sound .few, small .0);
+          counted = j .counted;
+          short = λ i h. omega (arith, j .fan .path i h .short, small .1);
+        };
+        room = j .room;
+        within = λ i h. omega (arith, j .fan .path i h .short);
+      };
+    }
+
+module _ (kind size s : ℕ) (targets places counts out : List ℕ) where
+  abbrev k : ℕ
+  k = length targets
+
+  abbrev says : ℕ
+  says = ruled kind size s targets places counts out
+
+  -- ---- where the judge says 0
+  module _ (z : says ≡ 0) where
+    pub fan-sheeted : Sheeted kind size k (length places) counts
+    fan-sheeted = judged-sheeted kind size s targets places counts (judged (kindOf kind) size s targets places counts z)
+
+    against-put : putAgainst kind size s k places counts out ≡ writeAgainst kind size s targets places counts out
+    against-put =
+        ap (λ (b : Bool). pick b (putAgainst kind size s k places counts out) (pick (eqb says 8) (some flaw.NoRoom) (some flaw.NotAFan))) (sym (eq-eqb says 0 z))
+
+    pub wrote-fan : {r : Written} {out₁ : List ℕ} → Put kind size s k places counts out r out₁ → Wrote kind size s targets places counts out r out₁
+    wrote-fan p = record {
+      told = p .told ∙ ap (λ (o : Option Flaw). tellWritten o (length (sheet kind size s targets places counts out))) against-put;
+      held = p .held ∙ ap (λ (o : Option Flaw). settled o (sheet kind size s targets places counts out ++ drop (length (sheet kind size s targets places counts out)) out) out) against-put;
+    }
+
+  -- ---- where it says another number
+
+  refused : {f : Flaw} → some f ≡ writeAgainst kind size s targets places counts out → Wrote kind size s targets places counts out (written.Refused f) out
+  refused e = record {
+    told = ap (λ (o : Option Flaw). tellWritten o (length (sheet kind size s targets places counts out))) e;
+    held = ap (λ (o : Option Flaw). settled o (sheet kind size s targets places counts out ++ drop (length (sheet kind size s targets places counts out)) out) out) e;
+  }
+
+  not-fan : says ≢ 0 → pick (eqb says 8) (some flaw.NoRoom) (some flaw.NotAFan) ≡ writeAgainst kind size s targets places counts out
+  not-fan ne =
+      ap (λ (b : Bool). pick b (putAgainst kind size s k places counts out) (pick (eqb says 8) (some flaw.NoRoom) (some flaw.NotAFan))) (sym (ne-eqb says 0 ne))
+
+  pub wrote-short : says ≢ 0 → says ≡ 8 → Wrote kind size s targets places counts out (written.Refused flaw.NoRoom) out
+  wrote-short ne e = refused (ap (λ (b : Bool). pick b (some flaw.NoRoom) (some flaw.NotAFan)) (sym (eq-eqb says 8 e)) ∙ not-fan ne)
+
+  pub wrote-not : says ≢ 0 → says ≢ 8 → Wrote kind size s targets places counts out (written.Refused flaw.NotAFan) out
+  wrote-not ne nt = refused (ap (λ (b : Bool). pick b (some flaw.NoRoom) (some flaw.NotAFan)) (sym (ne-eqb says 8 nt)) ∙ not-fan ne)
