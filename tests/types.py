@@ -30,7 +30,7 @@ def said(sources, code):
 
 def main():
     with tempfile.TemporaryDirectory() as folder:
-        sources = partial.copy(folder, ["two"], "types", ["answers", "two"])
+        sources = partial.copy(folder, ["two"], "types", ["answers", "two_parts", "two"])
         status, words = said(sources, RIGHT)
         if status != 0:
             sys.exit(f"the right code is refused:\n{words[-800:]}")

@@ -1,4 +1,5 @@
--- What the three columns of a fan's paths hold: their targets, their hops, and which of them are whole (`Columns`).
+-- What the three columns of a fan's paths hold: their targets, their hops, and which of them are whole (`Columns`); what stood behind those places
+-- stays. Definitions; assumes nothing.
 use Prim.Native.Nat.{ℕ, zero, suc}
 use mathlib.Core.Path.{_≡_}
 use mathlib.Core.Bool.{Bool}

@@ -5,4 +5,5 @@ pub mod Says
 pub mod Links
 pub mod Routes
 pub mod Sizes
+pub mod Half
 pub mod Unique

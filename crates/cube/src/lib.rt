@@ -37,7 +37,7 @@ impl Size {
         ensures { λ r. ⌜ answerTold r ≡ factTold (self .0) (2 ^ self .0) ⌝ }
     {
         if self.known() {
-            Answer::Value(power(self.0))
+            Answer::Value(bits::power(self.0 as u32))
         } else {
             Answer::Refused(Refusal::UnknownSize)
         }
@@ -77,20 +77,12 @@ impl Size {
     }
 }
 
-// 2^n, for callers that know the size: `power(4)` is 16.
-pub fn power(n: u64) -> u64
-    requires { ⌜ n < 64 ⌝ }
-    ensures { λ r. ⌜ r ≡ 2 ^ n ⌝ }
-{
-    1 << n
-}
-
 // What stands against a source and a target in a cube of this size: 1, 2, 5. For `Size(4)` and 16, 16 it is the source.
 pub fn pair(size: Size, source: u64, target: u64) -> Checked
     ensures { λ r. ⌜ against r ≡ pairAgainst (size .0) source target false ⌝ }
 {
     if size.known() {
-        let relays = power(size.0);
+        let relays = bits::power(size.0 as u32);
         if relays <= source {
             return Checked::Refused(Refusal::SourceOut);
         }

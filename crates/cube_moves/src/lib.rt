@@ -1,4 +1,4 @@
-// The steps of the planner of a fan through doors, in a grid (crate `grid`) whose rows hold their targets. Sets of dimensions and of rows are masks.
+// The steps of the planner of a fan through doors, in a grid (crate `cube_rows`) whose rows hold their targets. Sets of dimensions and of rows are masks.
 // Inner: its functions are called by the planner, which meets their `requires`.
 ghost use mathlib.Core.Path.{_≡_};
 ghost use mathlib.Core.List.{[], _∷_};
@@ -227,7 +227,7 @@ pub fn divide(free: u64, s: u64, shut: u64, m: u64, w: usize, grid: &mut [u64]) 
     let b = parting(m, w, grid);
     let rest = bits::flip(free, b);
     let f = bits::flip(s, b);
-    let pow = cube_rows::pow(b);
+    let pow = bits::power(b);
     let low = cube_rows::less(shut, pow);
     let far = alike(m, f, pow, w, grid);
     let home = home_of(far, f, free, shut, b, w, grid);

@@ -21,7 +21,7 @@ fn request(size: Size, source: u64, targets: &[u64]) -> Checked
     ensures { λ r. ⌜ against r ≡ first (earlyFaults (size .0) source (now (targets .entry))) ⌝ }
 {
     if size.known() {
-        return requests::request(cube::power(size.0), size.0, source, targets);
+        return requests::request(bits::power(size.0 as u32), size.0, source, targets);
     }
     Checked::Refused(Refusal::UnknownSize)
 }
@@ -42,7 +42,7 @@ fn bad_doors(n: u64, doors: u64, k: usize) -> bool
     requires { ⌜ n ≤ 32 ⌝ }
     ensures { λ r. ⌜ r ≡ pick (leb (2 ^ n) doors) true (ltb (ones doors) k) ⌝ }
 {
-    if cube::power(n) <= doors {
+    if bits::power(n as u32) <= doors {
         return true;
     }
     (u64::count_ones(doors) as usize) < k
@@ -53,7 +53,7 @@ fn others(n: u64, doors: u64) -> u64
     requires { ⌜ n ≤ 32 ⌝ }
     ensures { λ r. ⌜ r ≡ masks.less (2 ^ n - 1) doors ⌝ }
 {
-    cube_rows::less(cube::power(n) - 1, doors)
+    cube_rows::less(bits::power(n as u32) - 1, doors)
 }
 
 // The fan for a request that is sound, through doors that are not shut; refused where there is no room.

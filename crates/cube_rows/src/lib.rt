@@ -7,14 +7,6 @@ ghost use lib.ListN.{length};
 ghost use Rattle.cube_math.specs.Masks as masks;
 ghost use Rattle.cube_rows.specs.Grid as specs;
 
-// 2^i.
-pub fn pow(i: u32) -> u64
-    requires { ⌜ i < 64 ⌝ }
-    ensures { λ r. ⌜ r ≡ 2 ^ i ⌝ }
-{
-    1 << i
-}
-
 // The members of a that are not in b: `less(7, 2)` is 5.
 pub fn less(a: u64, b: u64) -> u64
     ensures { λ r. ⌜ r ≡ masks.less a b ⌝ }

@@ -6,10 +6,11 @@ use mathlib.Core.Logic.{_⊎_, inl, inr, ⊎-elim, _≢_}
 use mathlib.Core.List.{List, [], _∷_}
 use native.Mathlib.Omega.{arith}
 use lib.Count.{ones, ones-ones}
-use lib.ListN.{length, getD, set, List·getD-eq-default}
-use lib.Seq.{getD-set-same, getD-set-other}
+use lib.ListN.{length, getD, set, replicate, List·getD-eq-default}
+use lib.Seq.{sets, getD-set-same, getD-set-other}
 use Rattle.bits.specs.Bit.{bit}
 use Rattle.bits.specs.Laws.{lt-or-le}
+use Rattle.scan.specs.Runs.{filled-in, filled-out}
 use Rattle.paths.specs.Fan as fan
 use Rattle.paths.specs.Lists.{ahead, ahead-at, ahead-length, Laid}
 use Rattle.cube_math.specs.Doors.{Doors}
@@ -79,20 +80,12 @@ pub record Filled (from to : ℕ) (before after : List ℕ) : Type 0 where
   pub is : (i : ℕ) → from ≤ i → i < to → getD after i 0 ≡ fan.filler
   pub rest : (i : ℕ) → (i < from) ⊎ (to ≤ i) → getD after i 0 ≡ getD before i 0
 
-pub filled-none : (from to : ℕ) (l : List ℕ) → to ≡ from → Filled from to l l
-filled-none from to l e = record { is = λ i h g. absurd (omega arith); rest = λ i h. refl }
-
-pub filled-more : (from to : ℕ) (l m : List ℕ) → Filled from to l m → to < length m → from ≤ to → Filled from (to + 1) l (set m to fan.filler)
-filled-more from to l m a h le = record {
-  is = λ i q r. ⊎-elim
-      (λ e. ap (λ (y : ℕ). getD (set m to fan.filler) y 0) e ∙ getD-set-same m to fan.filler 0 h)
-      (λ ne. getD-set-other m to i fan.filler 0 ne ∙ a .is i q (under i to r ne)) (same-or i to);
-  rest = λ i q. getD-set-other m to i fan.filler 0 (λ e. ⊎-elim (λ (y : i < from). omega arith) (λ y. omega arith) q)
-      ∙ a .rest i (⊎-elim inl (λ y. inr (omega arith)) q);
+-- places that were filled
+pub filled : (from n to : ℕ) {l m : List ℕ} → to ≡ from + n → to ≤ length l → m ≡ sets l from (replicate n fan.filler) → Filled from to l m
+filled from n to {l} e h z = record {
+  is = λ i a b. ap (λ (k : List ℕ). getD k i 0) z ∙ filled-in l from n fan.filler i (omega arith) a (omega arith);
+  rest = λ i a. ap (λ (k : List ℕ). getD k i 0) z ∙ filled-out l from n fan.filler i (⊎-elim (λ (b : i < from). inl b) (λ b. inr (omega arith)) a);
 }
-
-pub filled-all : {from i to : ℕ} {l m : List ℕ} → i ≡ to → Filled from i l m → Filled from to l m
-filled-all {from} {i} {to} {l} {m} e a = subst (λ (y : ℕ). Filled from y l m) e a
 
 -- ---- one row
 

@@ -1,10 +1,10 @@
-// A fan through doors in a cube, built by recursion over the dimensions in a grid (crate `grid`), which is the lent places themselves.
+// A fan through doors in a cube, built by recursion over the dimensions in a grid (crate `cube_rows`), which is the lent places themselves.
 // Inner: `fan_through` is called by the planners that check a request first, and so meet its `requires`.
 ghost use mathlib.Core.Path.{_≡_};
 ghost use Prim.Native.Nat.{ℕ, _+_, _-_, _*_, _^_, _<_, _≤_};
 ghost use lib.ListN.{length, getD};
 ghost use Rattle.cube_split.specs.Plan.{Asked, Planned};
-ghost use Rattle.cube_split.specs.Fan.{Begun, Shifted, Filled, Settled, Spread, Sought, Given};
+ghost use Rattle.cube_split.specs.Fan.{Begun, Shifted, Settled, Spread, Sought, Given};
 use paths::FILLER;
 
 // Paths from s to the targets of the rows m, in the dimensions `free`, through doors that are not shut.
@@ -36,7 +36,7 @@ fn full(n: u32) -> u64
     requires { ⌜ n ≤ 32 ⌝ }
     ensures { λ r. ⌜ r ≡ 2 ^ n - 1 ⌝ }
 {
-    cube_rows::pow(n) - 1
+    bits::power(n) - 1
 }
 
 // ---- the rows begun, and turned into paths as they are lent
@@ -65,18 +65,6 @@ fn shift(places: &mut [u64], to: usize, from: usize, n: usize)
     }
 }
 
-// The places from `from` to `to` hold the filler.
-fn fill(places: &mut [u64], from: usize, to: usize)
-    requires { ⌜ (from ≤ to) × (to ≤ length (now places)) ⌝ }
-    ensures { λ _. ⌜ Filled from to (now (places .entry)) (now (places .exit)) ⌝ }
-{
-    let mut i = from;
-    while i < to {
-        places[i] = FILLER;
-        i += 1;
-    }
-}
-
 // The row at the place `at` becomes a path as it is lent: its source, its relays, filler. Returns its hops.
 fn settle(s: u64, w: usize, at: usize, places: &mut [u64]) -> u64
     requires { ⌜ (getD (now places) at 0 < w) × (at + w ≤ length (now places)) ⌝ }
@@ -84,7 +72,7 @@ fn settle(s: u64, w: usize, at: usize, places: &mut [u64]) -> u64
 {
     let n = places[at];
     shift(places, at + 1, at + w - n as usize, n as usize);
-    fill(places, at + 1 + n as usize, at + w);
+    scan::fill(places, at + 1 + n as usize, w - 1 - n as usize, FILLER);
     places[at] = s;
     n
 }

@@ -1,4 +1,4 @@
-// Decimal numerals as text: a number written, and one read. Inner: called by `line`, which meets each `requires`.
+// Decimal numerals as text: a number written, and one read. Inner: callers meet each `requires`.
 mod reading;
 mod writing;
 

@@ -8,6 +8,7 @@ use Rattle.scan.specs.Scan.{pick}
 use Rattle.paths.specs.Mesh.{width}
 use Rattle.paths.specs.Whole.{Failed}
 use Rattle.mesh.specs.Kinds.{Kind}
+use Rattle.mesh.specs.Limits.{mostLinks}
 use Rattle.survivors.specs.Tally.{tallyTold}
 use Rattle.survivors.specs.declared.Tally.{Tally}
 use Rattle.survivors.specs.declared.Tally.the-variants as tally
@@ -17,7 +18,7 @@ use Rattle.entries.specs.declared.gathered.Gathered.{Gathered}
 
 -- the most entries: no relay has more links
 abbrev pub MOST : ℕ
-MOST = 32
+MOST = mostLinks
 
 -- as many as there is room for, up to the most
 unfoldable pub capped : ℕ → ℕ

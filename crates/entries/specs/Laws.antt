@@ -19,7 +19,7 @@ use Rattle.paths.specs.Fan.{hops}
 use Rattle.paths.specs.Finding.{Finding, clean, found, finding}
 use Rattle.paths.specs.Whole.{Failed, whole}
 use Rattle.mesh.specs.Kinds.{Kind, kindOf}
-use Rattle.mesh.specs.Laws.{known-small}
+use Rattle.mesh.specs.Limits.{known-links}
 use Rattle.mesh.specs.Says.{requestAgainst, short}
 use Rattle.mesh.specs.Requests.{Fine, request-room, request-fine, request-passed, neither-wanting, room-enough}
 use Rattle.judge.specs.Says.{numberOf, rule, judgeAgainst, verdictTold}
@@ -63,7 +63,7 @@ against-same kind n s targets a b same =
     go : (o : Option Refusal) → requestAgainst (kindOf kind) n s targets false ≡ o → before o (refuse a NoRoom none) ≡ before o (refuse b NoRoom none)
     go none e =
         let fine = request-fine (kindOf kind) n s targets e in
-        let small = known-small kind n (fine .known) .0 in
+        let small = known-links kind n (fine .known) in
         ap (λ (x : Bool). refuse x NoRoom none) (same (omega (arith, fine .sound .few, small)))
     go (some why) e = refl
 
@@ -178,7 +178,7 @@ module _ (kind n s : ℕ) (targets places counts : List ℕ) (fails : Failed) (r
 
     room-for : (k ≤ MOST) × (k ≤ room) × (k ≤ length counts)
     room-for =
-        (omega (arith, passed .0 .sound .few, known-small kind n (passed .0 .known) .0), ltb-false room k (roomy .0), room-enough (K .mesh n) k (length places) (length counts) (roomy .1) .1)
+        (omega (arith, passed .0 .sound .few, known-links kind n (passed .0 .known)), ltb-false room k (roomy .0), room-enough (K .mesh n) k (length places) (length counts) (roomy .1) .1)
 
     given : {A : Type 0} (a b : A) → settled lent first a b ≡ a
     given a b = settled-is a b (against ∙ none-against) none-found

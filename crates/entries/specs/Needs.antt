@@ -1,4 +1,5 @@
--- What `store` asks: the columns hold as many entries as are to be written, and so does the list.
+-- What `store` asks of its callers (`Fits`): the columns hold as many entries as are to be written, and the list has room for them.
+-- Definitions; assumes nothing.
 use Prim.Native.Nat.{ℕ, _≤_}
 use Rattle.entries.specs.Gathered.{MOST}
 use Rattle.entries.specs.declared.gathered.Gathered.{Gathered}

@@ -9,7 +9,7 @@ use mesh::Mesh;
 use survivors::Tally;
 
 // The most entries: no relay has more links.
-const MOST: usize = 32;
+const MOST: usize = mesh::MOST_LINKS;
 
 // What comes back, how many entries there are to write (none of a refusal or a finding), and their columns.
 pub struct Gathered {

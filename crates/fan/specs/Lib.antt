@@ -1,2 +1,3 @@
--- What the program owes: parts of its buffers.
+-- The program: what it reads, and its buffers.
+pub mod Says
 pub mod Buffers

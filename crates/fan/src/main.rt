@@ -3,11 +3,15 @@ ghost use mathlib.Core.Path.{_≡_};
 ghost use Prim.Native.Nat.{_≤_};
 ghost use lib.ListN.{length};
 ghost use Rattle.scan.specs.Scan.{any};
-ghost use Rattle.fan.specs.Buffers.{isEnd};
+ghost use Rattle.line.specs.Text.{mostBytes};
+ghost use Rattle.fan.specs.Says.{isEnd, Came};
 use answers::Answer;
 
-// The longest line, with its line end.
-const MOST: usize = 1024;
+// How many bytes came, and whether the input has ended: the last read gave none.
+struct Input {
+    bytes: usize,
+    ended: bool,
+}
 
 // Reads once into a slice, and answers how many bytes came: 0 at the end of the input.
 fn read_some(buf: &mut [u8]) -> usize
@@ -31,28 +35,38 @@ fn has_end(text: &[u8]) -> bool
     false
 }
 
-// Reads until a line end has come, the buffer is full or the input ends, and answers how many bytes came.
-fn read_line(buf: &mut [u8]) -> usize
-    ensures { λ r. ⌜ r ≤ length (now (buf .exit)) ⌝ }
+// Reads until a line end has come, the room of a line is full or the input ends.
+fn read_line(buf: &mut [u8]) -> Input
+    requires { ⌜ length (now buf) ≡ mostBytes ⌝ }
+    ensures { λ r. ⌜ Came (now (buf .exit)) (r .bytes) (r .ended) ⌝ }
 {
     let mut n: usize = 0;
     while n < buf.len() {
         let got = read_some(&mut buf[n..]);
         if got == 0 {
-            return n;
+            return Input {
+                bytes: n,
+                ended: true,
+            };
         }
         n += got;
         if has_end(&buf[..n]) {
-            return n;
+            return Input {
+                bytes: n,
+                ended: false,
+            };
         }
     }
-    n
+    Input {
+        bytes: n,
+        ended: false,
+    }
 }
 
 fn main() {
-    let mut text = [0u8; MOST];
+    let mut text = [0u8; line::MOST_BYTES];
     let mut out = [0u8; reply::ROOM];
-    let n = read_line(&mut text);
+    let n = read_line(&mut text).bytes;
     if let Answer::Value(said) = reply::answer(&text[..n], &mut out) {
         io::write_all(libc::STDOUT_FILENO, &out[..said as usize]);
     }

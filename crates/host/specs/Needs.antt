@@ -9,12 +9,13 @@ use lib.ListN.{length}
 use Rattle.scan.specs.Scan.{pick}
 use Rattle.mesh.specs.Kinds.{kindOf, meshOf}
 use Rattle.mesh.specs.Says.{requestAgainst}
+use Rattle.mesh.specs.Limits.{mostLinks, mostPlaces}
 use Rattle.host.specs.Says.{most}
 
 -- room for the paths of every fan
 pub record Roomy (places counts : ℕ) : Type 0 where
-  pub placed : 1242 ≤ places
-  pub counted : 32 ≤ counts
+  pub placed : mostPlaces ≤ places
+  pub counted : mostLinks ≤ counts
 
 -- a request that nothing stands against, and room for its paths and its sheet
 pub record Layable (kind size s : ℕ) (targets : List ℕ) (places counts out : ℕ) : Type 0 where

@@ -24,16 +24,17 @@ use Rattle.answers.specs.declared.Checked.the-variants as checked
 use Rattle.paths.specs.Mesh.{width}
 use Rattle.paths.specs.Fan.{Fan}
 use Rattle.mesh.specs.Kinds.{kindOf, meshOf, known}
-use Rattle.mesh.specs.Laws.{known-small}
+use Rattle.mesh.specs.Limits.{mostLinks, known-links, known-width, known-places}
 use Rattle.mesh.specs.Says.{requestAgainst, short}
 use Rattle.mesh.specs.Requests.{Fine, request-fine, checked-fine, request-refused, request-short, request-granted, room-enough}
-use Rattle.requests.specs.Planned as planner
+use Rattle.requests.specs.Planned as requests
 use Rattle.requests.specs.Planned.{not-both}
+use Rattle.planner.specs.Needs as planner
 use Rattle.sheet.specs.Format.{relaysAt}
 use Rattle.sheet.specs.Says.{settled, flawed}
 use Rattle.sheet.specs.Pieces.{at-front}
 use Rattle.sheet.specs.Lengths.{relays-count}
-use Rattle.sheet.specs.Most.{fan-sheet-most, known-room}
+use Rattle.sheet.specs.Most.{fan-sheet-most}
 use Rattle.judge.specs.Alike.{enough}
 use Rattle.sheet.specs.Judging.{Judged}
 use Rattle.sheet.specs.declared.Flaw.{Flaw}
@@ -42,7 +43,7 @@ use Rattle.sheet_write.specs.Says.{bytes}
 use Rattle.sheet_write.specs.Says as write
 use Rattle.sheet_write.specs.Needs.{Sheeted}
 use Rattle.sheet_write.specs.Writing.{judged-sheeted}
-use Rattle.sheet_write.specs.declared.Written.{Written}
+use Rattle.sheet.specs.declared.Written.{Written}
 use Rattle.host.specs.Says.{codeOf, most, targetsIn, listAgainst, planAgainst, Answered, Planned}
 use Rattle.host.specs.Needs.{Roomy, Layable, few}
 
@@ -67,7 +68,7 @@ module _ (why : Refusal) where
       through (eqb (length targets) 0) NoTarget _ (omega arith) (λ b.
       through (ltb (meshOf kind size .links) (length targets)) TooMany _ (omega arith) (λ m.
       let below : (test : ℕ → Bool) (p : ℕ) → firstAt targets test ≡ at p → p < 256 =
-      λ test p e. omega (arith, seek-first test 0 (length targets) p e .within, ltb-false (meshOf kind size .links) (length targets) m, known-small kind size (not-false (known kind size) k) .0) in
+      λ test p e. omega (arith, seek-first test 0 (length targets) p e .within, ltb-false (meshOf kind size .links) (length targets) m, known-links kind size (not-false (known kind size) k)) in
       through-at (firstAt targets (isOut (meshOf kind size .relays) targets)) TargetOut _ (below (isOut (meshOf kind size .relays) targets))
       (through-at (firstAt targets (isSame s targets)) TargetIsSource _ (below (isSame s targets))
       (through-at (firstAt targets (isAgain targets)) TargetAgain _ (below (isAgain targets)) (λ e. not-both refl (sym e))))))))
@@ -84,9 +85,8 @@ module _ (kind size k : ℕ) {w : ℕ} (e : w ≡ width (meshOf kind size)) wher
 
   pub most-few : known kind size ≡ true → k ≤ meshOf kind size .links → (8 * (w - 1) ≤ 1648) × (k * (2 + 8 * (w - 1)) ≤ 52800)
   most-few h g =
-      let s = known-small kind size h in
-      let wide : 2 + 8 * (w - 1) ≤ 1650 = omega (arith, longest-is, s .1) in
-      (omega arith, le-trans (mul-le-mul (le-trans g (s .0)) wide) (omega arith))
+      let wide : 2 + 8 * (w - 1) ≤ 1650 = omega (arith, longest-is, known-width kind size h) in
+      (omega arith, le-trans (mul-le-mul (le-trans g (known-links kind size h)) wide) (omega arith))
 
   pub most-is : 16 + k * (2 + 8 * (w - 1)) ≡ most (meshOf kind size) k
   most-is = ap (λ (x : ℕ). 16 + k * (2 + 8 * x)) longest-is
@@ -98,25 +98,26 @@ module _ (kind size s : ℕ) (targets : List ℕ) where
   wide {places} {counts} {out} p =
       let fine = request-fine (kindOf kind) size s targets (p .clear) in
       let all = mul-le-mul-right (width (meshOf kind size)) (fine .sound .few) in
-      let placed : length targets * width (meshOf kind size) ≤ places = omega (arith, all, known-room kind size (fine .known), p .roomy .placed) in
-      let counted : length targets ≤ counts = omega (arith, fine .sound .few, known-small kind size (fine .known) .0, p .roomy .counted) in
+      let placed : length targets * width (meshOf kind size) ≤ places = omega (arith, all, known-places kind size (fine .known), p .roomy .placed) in
+      let counted : length targets ≤ counts = omega (arith, fine .sound .few, known-links kind size (fine .known), p .roomy .counted) in
       enough (meshOf kind size) (length targets) places counts placed counted
 
-  module _ {places counts places₁ counts₁ : List ℕ} {out : ℕ} {r : Checked} (p : Layable kind size s targets (length places) (length counts) out)
-      (f : planner.Planned (requestAgainst (kindOf kind) size s targets (short (meshOf kind size) (length targets) (length places) (length counts))) (meshOf kind size) s targets places counts r places₁ counts₁) where
-    pub lay-fan : Fan (meshOf kind size) s targets places₁ counts₁
-    lay-fan = f .fan (ap (requestAgainst (kindOf kind) size s targets) (wide p) ∙ p .clear)
+  -- what laying a fan asks
+  pub lay-able : {places counts out : ℕ} → Layable kind size s targets places counts out → planner.Layable kind size s targets places counts
+  lay-able p = record { clear = p .clear; room = wide p }
 
+  module _ {places counts places₁ counts₁ : List ℕ} {out : ℕ} (p : Layable kind size s targets (length places) (length counts) out)
+      (f : requests.Planned none (meshOf kind size) s targets places counts checked.Fine places₁ counts₁) where
     pub lay-judged : Judged (kindOf kind) size s targets places₁ counts₁
     lay-judged =
         let room = room-enough (meshOf kind size) (length targets) (length places) (length counts) (wide p) in
-        record { request = p .clear; room = omega (arith, room .0, f .as-long); counted = omega (arith, room .1, f .as-long-counts); fan = lay-fan }
+        record { request = p .clear; room = omega (arith, room .0, f .as-long); counted = omega (arith, room .1, f .as-long-counts); fan = f .fan refl }
 
     pub lay-sheeted : Sheeted kind size (length targets) (length places₁) counts₁
     lay-sheeted = judged-sheeted kind size s targets places₁ counts₁ lay-judged
 
-  pub lay-answered : {places counts places₁ counts₁ out out₁ : List ℕ} {r : Checked} {w : Written} → Layable kind size s targets (length places) (length counts) (length out)
-      → planner.Planned (requestAgainst (kindOf kind) size s targets (short (meshOf kind size) (length targets) (length places) (length counts))) (meshOf kind size) s targets places counts r places₁ counts₁
+  pub lay-answered : {places counts places₁ counts₁ out out₁ : List ℕ} {w : Written} → Layable kind size s targets (length places) (length counts) (length out)
+      → requests.Planned none (meshOf kind size) s targets places counts checked.Fine places₁ counts₁
       → write.Put kind size s (length targets) places₁ counts₁ out w out₁ → Answered kind size s targets out out₁
   lay-answered {places} {counts} {places₁} {counts₁} {out} {out₁} p f q =
       let sheet = bytes kind size s (length targets) places₁ counts₁ in
@@ -175,7 +176,7 @@ many kind size s targets out h = go (true-or (known kind size))
     rest = refuse (leb (meshOf kind size .relays) s) SourceOut (some TooMany)
 
     go : (known kind size ≡ true) ⊎ (known kind size ≡ false) → listAgainst kind size s targets out ≡ refuse (not (known kind size)) UnknownSize rest
-    go (inl k) = let more : meshOf kind size .links < length targets = omega (arith, known-small kind size k .0) in
+    go (inl k) = let more : meshOf kind size .links < length targets = omega (arith, known-links kind size k) in
         simp (ne-eqb (length targets) 0 (λ z. omega arith), lt-ltb (meshOf kind size .links) (length targets) more)
     go (inr u) = simp u
 

@@ -17,10 +17,10 @@ use Rattle.survivors.specs.Tally.{Tallied, rulingOf, wholeOf}
 use Rattle.survivors.specs.Says.{survivorsTold, Survived}
 use Rattle.survivors.specs.declared.Tally.{Tally}
 use Rattle.sheet.specs.Format.{kindAt, sizeAt, sourceAt, countAt}
-use Rattle.sheet_write.specs.Says.{WriteTold, writtenNumber, writtenBytes, tellWritten, writeAgainst, sheet, Wrote}
-use Rattle.sheet_write.specs.declared.Written.{Written}
-use Rattle.sheet_check.specs.Says.{ReadTold, readNumber, readPath, readKind, readSize, readSource, readCount, tellRead}
-use Rattle.sheet_check.specs.declared.Reading.{Reading}
+use Rattle.sheet.specs.Says.{WriteTold, writtenNumber, writtenBytes, tellWritten, ReadTold, readNumber, readPath, readKind, readSize, readSource, readCount, tellRead}
+use Rattle.sheet_write.specs.Says.{writeAgainst, sheet, Wrote}
+use Rattle.sheet.specs.declared.Written.{Written}
+use Rattle.sheet.specs.declared.Reading.{Reading}
 use Rattle.sheet_read.specs.Says.{readsAgainst, Read}
 use Rattle.host.specs.declared.shapes.GustAnswer.{GustAnswer}
 use Rattle.host.specs.declared.shapes.GustFacts.{GustFacts}

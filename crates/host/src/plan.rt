@@ -32,7 +32,7 @@ fn lay(
     requires { ⌜ Layable (mesh .kind) (mesh .size) source (now targets) (length (now places)) (length (now counts)) (length (now out)) ⌝ }
     ensures { λ _. ⌜ Answered (mesh .kind) (mesh .size) source (now (targets .entry)) (now (out .entry)) (now (out .exit)) ⌝ }
 {
-    planner::plan(mesh, source, targets, places, counts);
+    planner::lay(mesh, source, targets, places, counts);
     sheet_write::put_sheet(mesh, source, targets.len(), places, counts, out);
 }
 
@@ -93,8 +93,8 @@ pub fn plan_bytes(mesh: Mesh, source: u64, bytes: &[u8], out: &mut [u8]) -> u64
     ensures { λ r. ⌜ Planned (planAgainst (mesh .kind) (mesh .size) source (now (bytes .entry)) (now (out .entry))) (mesh .kind) (mesh .size) source (targetsIn (now (bytes .entry))) (now (out .entry)) r (now (out .exit)) ⌝ }
 {
     let mut list = [0u64; 33];
-    let mut places = [0u64; 1242];
-    let mut counts = [0u64; 32];
+    let mut places = [0u64; mesh::MOST_PLACES];
+    let mut counts = [0u64; mesh::MOST_LINKS];
     plan_in(
         mesh,
         source,

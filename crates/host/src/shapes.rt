@@ -4,14 +4,13 @@ ghost use Rattle.scan.specs.Scan.{pick};
 ghost use Rattle.answers.specs.Told.{answerTold, yesNoTold};
 ghost use Rattle.judge.specs.Says.{verdictTold};
 ghost use Rattle.survivors.specs.Tally.{tallyTold};
-ghost use Rattle.sheet_write.specs.Says.{writtenTold};
-ghost use Rattle.sheet_check.specs.Says.{readingTold};
+ghost use Rattle.sheet.specs.Says.{writtenTold, readingTold};
 ghost use Rattle.host.specs.Shapes as specs;
 use answers::Answer;
 use answers::YesNo;
 use judge::Verdict;
-use sheet_check::Reading;
-use sheet_write::Written;
+use sheet::Reading;
+use sheet::Written;
 use survivors::Tally;
 
 // One value: hops, a distance, 1 or 0 for yes or no, how many paths are whole, how many bytes were written.

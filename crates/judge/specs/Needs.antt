@@ -1,4 +1,5 @@
--- What the search of all paths asks of its callers.
+-- What the search of all paths asks of its callers (`Lent`): rules that there are, and places and counts for each path.
+-- Definitions; assumes nothing.
 use Prim.Native.Nat.{ℕ, _*_, _≤_}
 use Rattle.judge_rows.specs.Needs.{Ruled}
 use Rattle.judge_rows.specs.declared.Rules.{Rules}

@@ -1,12 +1,7 @@
--- A request line read, and an answer written.
+-- A request line and an answer as text, and how the one is read.
 pub mod Text
 pub mod Parse
 pub mod Lines
-pub mod Reads
-pub mod Copies
 pub mod Says
-pub mod Asks
 pub mod Written
-pub mod Writes
-pub mod Rooms
 pub mod Unique

@@ -1,12 +1,9 @@
-// The request line read, and the answer written, as text.
-mod reading;
-mod writing;
-
+// A request line and its answer as text. `line_read` reads the one, and `line_write` writes the other.
 use answers::Refusal;
 use mesh::Mesh;
-pub use reading::read;
-pub use writing::write_fan;
-pub use writing::write_refusal;
+
+// The most bytes of a request line, its line end included.
+pub const MOST_BYTES: usize = 1024;
 
 // What a line asks for: a fan in a mesh, from a source to so many targets.
 pub struct Asked {

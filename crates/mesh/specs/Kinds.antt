@@ -8,7 +8,7 @@ use Rattle.scan.specs.Scan.{pick}
 use Rattle.paths.specs.Mesh.{Mesh}
 use Rattle.cube.specs.Cube as cube
 use Rattle.cube.specs.Route as plain
-use Rattle.two.specs.Two as two
+use Rattle.two_parts.specs.Two as two
 use Rattle.two.specs.Next as walk
 
 pub record Kind : Type 0 where

@@ -1,8 +1,8 @@
 -- Laws of the kinds. Assumes nothing.
 --
 -- What holds of the cubes holds of kind 1, and so for each kind (`as-cube`, `as-two`, `as-other`); a mesh that there is is of one of them
--- (`known-two`), and small enough for a machine's numbers (`known-small`, `known-relays`).
-use Prim.Native.Nat.{ℕ, _^_, _≤_}
+-- (`known-case`): a further kind is one more case there.
+use Prim.Native.Nat.{ℕ}
 use mathlib.Core.Path.{_≡_, refl, sym, ap, ap₂, _∙_, subst}
 use mathlib.Core.Bool.{Bool, true, false, not}
 use mathlib.Core.List.{List, _++_}
@@ -11,7 +11,6 @@ use mathlib.Core.Logic.{_≢_}
 use native.Mathlib.Omega.{arith}
 use native.Mathlib.Decide.{ℕ-discrete}
 use lib.Dec.{eqb}
-use lib.Pow.{pow-mono}
 use borrow.Author.Tests.{eq-eqb, ne-eqb}
 use Rattle.scan.specs.Scan.{pick}
 use Rattle.scan.specs.Laws.{true-false}
@@ -19,11 +18,8 @@ use Rattle.answers.specs.Order.{first, sizeFaults, distanceFaults, pairFaults, 
 use Rattle.answers.specs.Pairs.{size-known, size-unknown}
 use Rattle.answers.specs.Told.{told, tell}
 use Rattle.answers.specs.declared.Refusal.the-variants.{UnknownSize}
-use Rattle.paths.specs.Mesh.{width}
 use Rattle.cube.specs.Cube as cube
-use Rattle.cube.specs.Sizes.{known-most}
-use Rattle.two.specs.Two as two
-use Rattle.two.specs.Parts.{known-bounds, longest-few, relays-few}
+use Rattle.two_parts.specs.Two as two
 use Rattle.paths.specs.Ways.{distance}
 use Rattle.mesh.specs.Kinds.{Kind, cubes, twos, others, CUBE, TWO, kindOf, known}
 use Rattle.mesh.specs.Says.{requestAgainst, distanceTold}
@@ -47,44 +43,25 @@ module _ {A : Type 0} (f : Kind → A) where
 
 -- ---- a mesh that there is
 
--- 32 paths of 207 places at most
-abbrev pub Small : (n : ℕ) → Kind → Type 0
-Small n K = (K .mesh n .links ≤ 32) × (width (K .mesh n) ≤ 207)
-
 module _ (k n : ℕ) (h : known k n ≡ true) where
   pub known-cube : k ≡ CUBE → cube.known n ≡ true
   known-cube e = as-cube (λ (K : Kind). K .known n) e ∙ h
 
-  -- what is no cube is a two-level mesh
-  pub known-kind : k ≢ CUBE → k ≡ TWO
-  known-kind ne = go (ℕ-discrete k TWO)
+  pub known-two : k ≡ TWO → two.known n ≡ true
+  known-two e = as-two (λ (K : Kind). K .known n) (λ c. omega arith) e ∙ h
+
+  -- it is of one of the kinds
+  pub no-other : k ≢ CUBE → k ≢ TWO → ⊥
+  no-other ne nt = true-false h (sym (as-other (λ (K : Kind). K .known n) ne nt))
+
+  -- the kinds, case by case: what holds of each of them that there is holds of it
+  pub known-case : (P : ℕ → Kind → Type 0) → (cube.known n ≡ true → P CUBE cubes) → (two.known n ≡ true → P TWO twos) → P k (kindOf k)
+  known-case P c t = go (ℕ-discrete k CUBE) (ℕ-discrete k TWO)
     where
-      go : Dec (k ≡ TWO) → k ≡ TWO
-      go (yes e) = e
-      go (no nt) = absurd (true-false h (sym (as-other (λ (K : Kind). K .known n) ne nt)))
-
-  pub not-cube : {A : Type 0} (f : Kind → A) → k ≢ CUBE → f twos ≡ f (kindOf k)
-  not-cube f ne = as-two f ne (known-kind ne)
-
-  pub known-two : k ≢ CUBE → two.known n ≡ true
-  known-two ne = not-cube (λ (K : Kind). K .known n) ne ∙ h
-
-  -- what holds of the cubes and of the two-level meshes that there are holds of it
-  known-either : (P : Kind → Type 0) → (cube.known n ≡ true → P cubes) → (two.known n ≡ true → P twos) → P (kindOf k)
-  known-either P c t = go (ℕ-discrete k CUBE)
-    where
-      go : Dec (k ≡ CUBE) → P (kindOf k)
-      go (yes e) = subst P (as-cube (λ K. K) e) (c (known-cube e))
-      go (no ne) = subst P (not-cube (λ K. K) ne) (t (known-two ne))
-
-  pub known-small : Small n (kindOf k)
-  known-small = known-either (Small n)
-      (λ h. let most = known-most n refl h in (most, omega arith))
-      (λ h. let most = known-bounds n h .1 in (omega arith, omega (arith, longest-few n most)))
-
-  -- a relay's number takes 37 bits at most
-  pub known-relays : kindOf k .mesh n .relays ≤ 2 ^ 37
-  known-relays = known-either (λ (K : Kind). K .mesh n .relays ≤ 2 ^ 37) (λ h. pow-mono {j = 37} (omega (arith, known-most n refl h))) (λ h. relays-few n (known-bounds n h .1))
+      go : Dec (k ≡ CUBE) → Dec (k ≡ TWO) → P k (kindOf k)
+      go (yes e) d = subst (P k) (as-cube (λ K. K) e) (subst (λ (x : ℕ). P x cubes) (sym e) (c (known-cube e)))
+      go (no ne) (yes e) = subst (P k) (as-two (λ K. K) ne e) (subst (λ (x : ℕ). P x twos) (sym e) (t (known-two e)))
+      go (no ne) (no nt) = absurd (no-other ne nt)
 
 -- ---- a request
 

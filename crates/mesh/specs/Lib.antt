@@ -2,5 +2,6 @@
 pub mod Kinds
 pub mod Says
 pub mod Laws
+pub mod Limits
 pub mod Requests
 pub mod Unique

@@ -14,7 +14,7 @@ ghost use mathlib.Core.Bool.{true};
 ghost use Rattle.answers.specs.Told.{answerTold};
 ghost use Rattle.paths.specs.Mesh.{width};
 ghost use Rattle.cube.specs.Cube as cubes;
-ghost use Rattle.two.specs.Two as twos;
+ghost use Rattle.two_parts.specs.Two as twos;
 ghost use Rattle.mesh.specs.Kinds as specs;
 ghost use Rattle.mesh.specs.Says.{factOf, factTold};
 use answers::Answer;
@@ -28,6 +28,15 @@ pub struct Mesh {
     pub kind: u64,
     pub size: u64,
 }
+
+// Of any mesh that there is: the most links of a relay, places of a path, places of a fan, bytes of a sheet.
+pub const MOST_LINKS: usize = 32;
+
+pub const MOST_WIDTH: usize = 207;
+
+pub const MOST_PLACES: usize = 1242;
+
+pub const MOST_BYTES: usize = 9916;
 
 // What is asked of a size.
 enum Fact {
@@ -100,7 +109,7 @@ fn cube_fact(n: u64, which: Fact) -> u64
     ensures { λ r. ⌜ r ≡ factOf which (cubes.cube n) ⌝ }
 {
     match which {
-        Fact::Relays => cube::power(n),
+        Fact::Relays => bits::power(n as u32),
         Fact::Links => n,
         Fact::Longest => n + 1,
         Fact::Places => n + 2,
@@ -113,10 +122,10 @@ fn two_fact(m: u64, which: Fact) -> u64
     ensures { λ r. ⌜ r ≡ factOf which (twos.two m) ⌝ }
 {
     match which {
-        Fact::Relays => two::relays_in(Order(m)),
+        Fact::Relays => two_parts::relays_in(Order(m)),
         Fact::Links => m + 1,
-        Fact::Longest => two::longest_in(Order(m)),
-        Fact::Places => two::longest_in(Order(m)) + 1,
+        Fact::Longest => two_parts::longest_in(Order(m)),
+        Fact::Places => two_parts::longest_in(Order(m)) + 1,
     }
 }
 
@@ -128,7 +137,10 @@ fn fact_in(mesh: Mesh, which: Fact) -> u64
     if mesh.kind == Mesh::CUBE {
         return cube_fact(mesh.size, which);
     }
-    two_fact(mesh.size, which)
+    if mesh.kind == Mesh::TWO {
+        return two_fact(mesh.size, which);
+    }
+    0
 }
 
 // The facts as plain numbers, for callers that know the mesh.

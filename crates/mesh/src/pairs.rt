@@ -87,5 +87,8 @@ pub fn joined(mesh: Mesh, u: u64, v: u64) -> bool
     if mesh.kind == Mesh::CUBE {
         return cube::differ_in_one(u, v);
     }
-    two::link(Order(mesh.size), u, v)
+    if mesh.kind == Mesh::TWO {
+        return two_parts::link(Order(mesh.size), u, v);
+    }
+    false
 }

@@ -10,7 +10,7 @@ use script::put;
 use script::put_first;
 use script::run;
 use script::text;
-use sheet_check::Reading;
+use sheet::Reading;
 
 // How many places are lent.
 struct Room {
@@ -60,6 +60,24 @@ fn put_reading(reading: Reading) {
 }
 
 // The reader, into a part of each slice lent.
+fn read_into(
+    bytes: &[u8],
+    room: Room,
+    places: &mut [u64],
+    counts: &mut [u64],
+    targets: &mut [u64],
+) -> Reading {
+    let a = least(room.places, places.len());
+    let b = least(room.counts, counts.len());
+    let c = least(room.targets, targets.len());
+    sheet_read::read(bytes, &mut places[..a], &mut counts[..b], &mut targets[..c])
+}
+
+fn put_named(name: &[u8], list: &[u64], n: usize) {
+    text(name);
+    put_first(list, n);
+}
+
 fn tell_read(
     bytes: &[u8],
     room: Room,
@@ -67,17 +85,10 @@ fn tell_read(
     counts: &mut [u64],
     targets: &mut [u64],
 ) {
-    let a = least(room.places, places.len());
-    let b = least(room.counts, counts.len());
-    let c = least(room.targets, targets.len());
-    let reading = sheet_read::read(bytes, &mut places[..a], &mut counts[..b], &mut targets[..c]);
-    put_reading(reading);
-    text(b" places");
-    put_first(places, a);
-    text(b" counts");
-    put_first(counts, b);
-    text(b" targets");
-    put_first(targets, c);
+    put_reading(read_into(bytes, room, places, counts, targets));
+    put_named(b" places", places, room.places);
+    put_named(b" counts", counts, room.counts);
+    put_named(b" targets", targets, room.targets);
     text(b"\n");
 }
 
@@ -122,6 +133,17 @@ pub fn write(list: &[u64], at: usize) -> usize
     d + 1
 }
 
+// The three numbers from the place `at` on.
+fn room_at(list: &[u64], at: usize) -> Room
+    requires { ⌜ at < 18446744073709551614 ⌝ }
+{
+    Room {
+        places: item(list, at) as usize,
+        counts: item(list, at + 1) as usize,
+        targets: item(list, at + 2) as usize,
+    }
+}
+
 // The reader is asked from the place `at` on; where the next case stands.
 pub fn read(list: &[u64], at: usize) -> usize
     requires { ⌜ at ≤ length (now list) ⌝ }
@@ -134,11 +156,7 @@ pub fn read(list: &[u64], at: usize) -> usize
     let numbers = run(list, at);
     let n = as_bytes(numbers, &mut bytes);
     let e = at + 1 + numbers.len();
-    let room = Room {
-        places: item(list, e) as usize,
-        counts: item(list, e + 1) as usize,
-        targets: item(list, e + 2) as usize,
-    };
+    let room = room_at(list, e);
     tell_read(&bytes[..n], room, &mut places, &mut counts, &mut targets);
     e + 3
 }

@@ -1,15 +1,15 @@
 -- A search for findings that ends clean: what it has seen of each path (`Clear`), and that it ends clean exactly then
 -- (`clean-clear`, `clear-clean`). Assumes nothing.
 use Prim.Native.Nat.{ℕ, zero, suc, _+_, _-_, _≤_, _<_}
-use mathlib.Core.Path.{_≡_, refl, sym, ap, _∙_}
+use mathlib.Core.Path.{_≡_, refl, ap, _∙_}
 use mathlib.Core.Bool.{Bool, true, false, not}
 use mathlib.Core.List.{List}
 use native.Mathlib.Omega.{arith}
 use native.Mathlib.Decide.{ℕ-discrete}
-use lib.Dec.{eqb, ltb}
+use lib.Dec.{eqb}
 use lib.ListN.{length, getD}
 use borrow.Author.Tests.{ltb-false, le-ltb, eqb-true, eq-eqb, not-false}
-use Rattle.scan.specs.Scan.{Spot, nowhere, at, pick}
+use Rattle.scan.specs.Scan.{Spot, nowhere, at}
 use Rattle.paths.specs.Rules.{Rules, span}
 use Rattle.paths.specs.Fan.{relay, hops}
 use Rattle.paths.specs.Finding.{Finding, clean, found, report, report-at, unlinkedAt, seenAt, unfilledAt, findingOf, findingFrom, findingBy}

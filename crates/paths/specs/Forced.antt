@@ -1,7 +1,7 @@
 -- Paths that can go one way only. A relay with two links, one of which a path came by, is left by the other (`onward`), and a path that has come to its
 -- target ends there (`arrived`): so a fan in a small mesh is shown to be the only one. Assumes nothing.
 use Prim.Native.Nat.{ℕ, _<_}
-use mathlib.Core.Path.{_≡_, refl, sym, ap, _∙_, subst}
+use mathlib.Core.Path.{_≡_, refl, sym, ap, subst}
 use mathlib.Core.Bool.{Bool, true, false, not, _&&_, _||_}
 use mathlib.Core.Logic.{_⊎_, inl, inr, ⊎-elim, _≢_}
 use mathlib.Core.List.{List, [], _∷_}

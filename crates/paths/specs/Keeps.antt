@@ -6,14 +6,13 @@ use mathlib.Core.Bool.{Bool, true, false, not}
 use mathlib.Core.Logic.{_⊎_, inl, inr, _≢_}
 use mathlib.Core.List.{List}
 use native.Mathlib.Omega.{arith}
-use lib.Dec.{eqb, leb}
 use lib.ListN.{length, getD}
 use borrow.Author.Tests.{leb-false, lt-leb, eqb-true, eq-eqb, not-false}
 use Rattle.scan.specs.Scan.{pick, any, among}
 use Rattle.scan.specs.Laws.{true-or, true-false, not-true, seek-none, none-seek, false-any, true-any}
 use Rattle.paths.specs.Rules.{Rules, span}
 use Rattle.paths.specs.Fan.{PathBy, filler, relay, hops}
-use Rattle.paths.specs.Finding.{Finding, clean, or, unlinked, on, twinned, seen, unfilled, unlinkedAt, seenAt, unfilledAt, findingBy}
+use Rattle.paths.specs.Finding.{clean, or, unlinked, on, twinned, seen, unfilled, unlinkedAt, seenAt, unfilledAt, findingBy}
 use Rattle.paths.specs.Places.{relay-among, none-among}
 use Rattle.paths.specs.Clear.{Clear, clean-clear, clear-clean}
 

@@ -1,4 +1,5 @@
--- What a set of paths is judged by (`Rules`). A fan's rules are the first value (`fanRules`): finding 24's exception stands here alone.
+-- What a set of paths is judged by (`Rules`): what a path may be, and where two paths may meet. A fan's rules are the first value
+-- (`fanRules`), and finding 24's exception stands there alone. Definitions; assumes nothing.
 use Prim.Native.Nat.{ℕ, _+_}
 use mathlib.Core.Bool.{Bool, false}
 use lib.Dec.{eqb}

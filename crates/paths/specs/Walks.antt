@@ -3,7 +3,6 @@
 -- `hops-is`: the walk that arrives after k steps has k hops. `route-..`: what a loop that writes the route needs.
 use Prim.Native.Nat.{ℕ, zero, suc, _+_, _≤_, _<_}
 use mathlib.Core.Path.{_≡_, refl, sym, ap, _∙_}
-use mathlib.Core.Logic.{_≢_}
 use mathlib.Core.List.{List, [], _∷_, _++_, append-assoc}
 use native.Mathlib.Numerals.{add-one}
 use native.Mathlib.Omega.{arith}
@@ -11,7 +10,6 @@ use lib.Dec.{eqb}
 use lib.ListN.{length, drop, set, getD, length-append, List·getD-append}
 use lib.Seq.{drop-cons, set-at, getD-at}
 use borrow.Author.Tests.{eq-eqb, ne-eqb}
-use Rattle.scan.specs.Scan.{Spot, at, seek}
 use Rattle.scan.specs.Laws.{first-seek}
 use Rattle.paths.specs.Walk.{node, route, number, hops, Arrives}
 

@@ -21,6 +21,7 @@ use Rattle.paths.specs.Mesh.{Mesh, width}
 use Rattle.paths.specs.Fan.{hops, Fan}
 use Rattle.mesh.specs.Kinds.{Kind, kindOf, meshOf, known}
 use Rattle.mesh.specs.Says.{requestAgainst, short}
+use Rattle.mesh.specs.Limits.{mostPlaces}
 use Rattle.mesh.specs.Requests.{Fine, request-room, request-fine}
 use Rattle.requests.specs.Planned.{Planned, planned-against}
 use Rattle.line.specs.Written.{fanText, refusedText, refusedRoom, overlong, fanRoom, wanting, writeTold, writeLeaves}
@@ -44,7 +45,7 @@ pub refusal-said : {r : Answer} (why : Refusal) (was : List ℕ) {now : List ℕ
     → answerTold r ≡ writeTold (ltb (length was) refusedRoom) (refusedText why) → now ≡ writeLeaves (ltb (length was) refusedRoom) (refusedText why) was → Said (refusedText why) was r now
 refusal-said why was h = written-said (refusedText why) was (ltb (length was) refusedRoom) (le-ltb (length was) refusedRoom (omega arith))
 
-module _ (kind n s : ℕ) (targets places counts : List ℕ) (p : length places ≡ 1242) (q : length counts ≡ 64) where
+module _ (kind n s : ℕ) (targets places counts : List ℕ) (p : length places ≡ mostPlaces) (q : length counts ≡ 64) where
   abbrev K : Kind
   K = kindOf kind
 

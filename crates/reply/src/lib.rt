@@ -17,13 +17,13 @@ fn request(mesh: Mesh, source: u64, targets: &[u64], out: &mut [u8]) -> Answer
     requires { ⌜ replyRoom ≤ length (now out) ⌝ }
     ensures { λ r. ⌜ Ruling (mesh .kind) (mesh .size) source (now (targets .entry)) (now (out .entry)) r (now (out .exit)) ⌝ }
 {
-    let mut places = [0u64; 1242];
+    let mut places = [0u64; mesh::MOST_PLACES];
     let mut counts = [0u64; 64];
     match planner::plan(mesh, source, targets, &mut places, &mut counts) {
-        Checked::Refused(why) => line::write_refusal(why, out),
+        Checked::Refused(why) => line_write::write_refusal(why, out),
         Checked::Fine => {
             let w = mesh::places_in(mesh) as usize;
-            line::write_fan(targets.len(), w, &places, &counts, out)
+            line_write::write_fan(targets.len(), w, &places, &counts, out)
         }
     }
 }
@@ -38,8 +38,8 @@ pub fn answer(text: &[u8], out: &mut [u8]) -> Answer
         return Answer::Refused(Refusal::NoRoom);
     }
     let mut targets = [0u64; 64];
-    match line::read(text, &mut targets) {
-        Line::Refused(why) => line::write_refusal(why, out),
+    match line_read::read(text, &mut targets) {
+        Line::Refused(why) => line_write::write_refusal(why, out),
         Line::Request(asked) => {
             let count = asked.count;
             request(asked.mesh, asked.source, &targets[..count], out)

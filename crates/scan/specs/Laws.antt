@@ -3,7 +3,7 @@
 -- A search of a run finds nothing exactly when the test fails at each number of it (`seek-none`, `none-seek`); what it finds
 -- is the first (`seek-first`). `any-true`, `true-any` and `false-any`, `any-false` say the same of `any`, `among-..` of a list.
 use Prim.Native.Nat.{ℕ, zero, suc, _+_, _≤_, _<_}
-use mathlib.Core.Path.{_≡_, refl, sym, ap, _∙_, subst}
+use mathlib.Core.Path.{_≡_, refl, sym, ap, _∙_}
 use mathlib.Core.Bool.{Bool, true, false, _&&_}
 use mathlib.Core.Logic.{_⊎_, inl, inr, ⊎-elim, _≢_}
 use mathlib.Core.List.{List, [], _∷_}

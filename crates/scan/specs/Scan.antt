@@ -1,7 +1,7 @@
 -- A run of numbers i, i + 1, .. searched by a test: the first at which it holds (`seek`), whether there is one (`any`), and at
 -- how many of the numbers below n it holds (`count`). What stands in a list, by a test: `among`, `has`; how many different numbers
 -- stand in it: `different`.
-use Prim.Native.Nat.{ℕ, zero, suc, _+_}
+use Prim.Native.Nat.{ℕ, zero, suc}
 use mathlib.Core.Bool.{Bool, true, false}
 use mathlib.Core.List.{List, [], _∷_}
 use lib.Dec.{eqb}

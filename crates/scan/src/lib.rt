@@ -1,7 +1,8 @@
-// Runs of numbers searched. Inner: called by other crates of the library, which meet the `requires`.
+// Runs of numbers searched, and filled. Inner: called by other crates of the library, which meet the `requires`.
 ghost use mathlib.Core.Path.{_≡_};
 ghost use Prim.Native.Nat.{_+_, _≤_};
-ghost use lib.ListN.{length};
+ghost use lib.ListN.{length, replicate};
+ghost use lib.Seq.{sets};
 ghost use Rattle.scan.specs.Scan as specs;
 
 // Where a test first holds, or that it holds nowhere.
@@ -24,4 +25,16 @@ pub fn among(list: &[u64], i: usize, n: usize, x: u64) -> bool
         j += 1;
     }
     false
+}
+
+// Puts x into the n places from `from` on.
+pub fn fill(list: &mut [u64], from: usize, n: usize, x: u64)
+    requires { ⌜ from + n ≤ length (now list) ⌝ }
+    ensures { λ _. ⌜ now (list .exit) ≡ sets (now (list .entry)) from (replicate n x) ⌝ }
+{
+    let mut i: usize = 0;
+    while i < n {
+        list[from + i] = x;
+        i += 1;
+    }
 }

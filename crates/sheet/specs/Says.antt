@@ -1,11 +1,15 @@
--- What a flaw tells: the specification's number, and the path that 34 tells (`flawNumber`, `flawPath`); flaws in their order, and what a lent slice
--- holds where one stands against it. Assumes nothing.
+-- What flaws and the answers of the writer and the reader tell: the specification's number, the path that 34 tells, and what comes beside them
+-- (`flawNumber`, `flawPath`, `writtenTold`, `readingTold`); flaws in their order, and what a lent slice holds where one stands against it. Assumes nothing.
 use Prim.Native.Nat.{ℕ}
 use mathlib.Core.Bool.{Bool}
 use mathlib.Core.Option.{Option, none, some}
 use Rattle.scan.specs.Scan.{pick}
 use Rattle.sheet.specs.declared.Flaw.{Flaw}
 use Rattle.sheet.specs.declared.Flaw.the-variants as flaw
+use Rattle.sheet.specs.declared.Written.{Written}
+use Rattle.sheet.specs.declared.Written.the-variants as written
+use Rattle.sheet.specs.declared.Reading.{Reading}
+use Rattle.sheet.specs.declared.Reading.the-variants as reading
 
 abbrev pub flawNumber : Flaw → ℕ
 flawNumber flaw.Cut = 30
@@ -39,3 +43,55 @@ before (some f) rest = some f
 abbrev pub settled : {A : Type 0} → Option Flaw → A → A → A
 settled none a b = a
 settled (some f) a b = b
+
+-- ---- the writer
+
+-- number and the length of the sheet
+pub data WriteTold : Type 0 where
+  wrote : (number bytes : ℕ) → WriteTold
+
+abbrev pub writtenNumber : WriteTold → ℕ
+writtenNumber (wrote n bytes) = n
+
+abbrev pub writtenBytes : WriteTold → ℕ
+writtenBytes (wrote n bytes) = bytes
+
+abbrev pub tellWritten : Option Flaw → ℕ → WriteTold
+tellWritten none n = wrote 0 n
+tellWritten (some f) n = wrote (flawNumber f) 0
+
+abbrev pub writtenTold : Written → WriteTold
+writtenTold (written.Bytes n) = tellWritten none n
+writtenTold (written.Refused f) = tellWritten (some f) 0
+
+-- ---- the reader
+
+-- number and path; kind, size, source and how many paths
+pub data ReadTold : Type 0 where
+  reads : (number path kind size source k : ℕ) → ReadTold
+
+abbrev pub readNumber : ReadTold → ℕ
+readNumber (reads n i kind size s k) = n
+
+abbrev pub readPath : ReadTold → ℕ
+readPath (reads n i kind size s k) = i
+
+abbrev pub readKind : ReadTold → ℕ
+readKind (reads n i kind size s k) = kind
+
+abbrev pub readSize : ReadTold → ℕ
+readSize (reads n i kind size s k) = size
+
+abbrev pub readSource : ReadTold → ℕ
+readSource (reads n i kind size s k) = s
+
+abbrev pub readCount : ReadTold → ℕ
+readCount (reads n i kind size s k) = k
+
+abbrev pub tellRead : Option Flaw → (kind size source k : ℕ) → ReadTold
+tellRead none kind size s k = reads 0 0 kind size s k
+tellRead (some f) kind size s k = reads (flawNumber f) (flawPath f) 0 0 0 0
+
+abbrev pub readingTold : Reading → ReadTold
+readingTold (reading.Fan m s k) = tellRead none (m .kind) (m .size) s k
+readingTold (reading.Refused f) = tellRead (some f) 0 0 0 0

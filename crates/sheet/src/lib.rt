@@ -1,6 +1,7 @@
 // Sheets: a fan as bytes. docs/SHEETS.md has the format byte by byte; `sheet_write` writes them and `sheet_read` reads them.
 ghost use mathlib.Core.Path.{_≡_};
 ghost use Rattle.sheet.specs.Says as says;
+use mesh::Mesh;
 
 // Why a sheet is not written or not read.
 pub enum Flaw {
@@ -20,6 +21,18 @@ pub enum Flaw {
     NotAFan,
     // 36: bytes are left over.
     LeftOver,
+}
+
+// How many bytes the sheet takes, or why there is none.
+pub enum Written {
+    Bytes(usize),
+    Refused(Flaw),
+}
+
+// The mesh, the source and how many paths, or why it is no sheet.
+pub enum Reading {
+    Fan(Mesh, u64, usize),
+    Refused(Flaw),
 }
 
 impl Flaw {
@@ -52,6 +65,80 @@ impl Flaw {
             Flaw::Hops(i) => i,
             Flaw::NotAFan => 0,
             Flaw::LeftOver => 0,
+        }
+    }
+}
+
+impl Written {
+    // 0, or the number of what stands against it.
+    pub fn number(self) -> u64
+        ensures { λ r. ⌜ r ≡ says.writtenNumber (says.writtenTold self) ⌝ }
+    {
+        match self {
+            Written::Bytes(_) => 0,
+            Written::Refused(f) => f.number(),
+        }
+    }
+
+    // How many bytes the sheet takes, and 0 of a refusal.
+    pub fn bytes(self) -> usize
+        ensures { λ r. ⌜ r ≡ says.writtenBytes (says.writtenTold self) ⌝ }
+    {
+        match self {
+            Written::Bytes(n) => n,
+            Written::Refused(_) => 0,
+        }
+    }
+}
+
+impl Reading {
+    // 0, or the number of what stands against it.
+    pub fn number(self) -> u64
+        ensures { λ r. ⌜ r ≡ says.readNumber (says.readingTold self) ⌝ }
+    {
+        match self {
+            Reading::Fan(_, _, _) => 0,
+            Reading::Refused(f) => f.number(),
+        }
+    }
+
+    // The path that 34 tells, and 0 of all else.
+    pub fn path(self) -> usize
+        ensures { λ r. ⌜ r ≡ says.readPath (says.readingTold self) ⌝ }
+    {
+        match self {
+            Reading::Fan(_, _, _) => 0,
+            Reading::Refused(f) => f.path(),
+        }
+    }
+
+    // The mesh, and kind 0 and size 0 of a refusal.
+    pub fn mesh(self) -> Mesh
+        ensures { λ r. ⌜ (r .kind ≡ says.readKind (says.readingTold self)) × (r .size ≡ says.readSize (says.readingTold self)) ⌝ }
+    {
+        match self {
+            Reading::Fan(mesh, _, _) => mesh,
+            Reading::Refused(_) => Mesh { kind: 0, size: 0 },
+        }
+    }
+
+    // The source, and 0 of a refusal.
+    pub fn source(self) -> u64
+        ensures { λ r. ⌜ r ≡ says.readSource (says.readingTold self) ⌝ }
+    {
+        match self {
+            Reading::Fan(_, source, _) => source,
+            Reading::Refused(_) => 0,
+        }
+    }
+
+    // How many paths, and 0 of a refusal.
+    pub fn paths(self) -> usize
+        ensures { λ r. ⌜ r ≡ says.readCount (says.readingTold self) ⌝ }
+    {
+        match self {
+            Reading::Fan(_, _, k) => k,
+            Reading::Refused(_) => 0,
         }
     }
 }

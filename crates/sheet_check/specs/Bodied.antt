@@ -2,7 +2,7 @@
 -- sheet (`head-flawed`). Assumes nothing.
 use Prim.Native.Nat.{ℕ, _-_, _≤_}
 use mathlib.Core.Path.{_≡_, refl, sym, ap, ap₂, _∙_}
-use mathlib.Core.Bool.{Bool, true, false, not}
+use mathlib.Core.Bool.{true, false, not}
 use mathlib.Core.List.{List}
 use mathlib.Core.Option.{Option, none, some}
 use native.Mathlib.Omega.{arith}
@@ -11,19 +11,19 @@ use lib.ListN.{length}
 use borrow.Author.Tests.{eqb-false, ltb-false, not-false}
 use Rattle.paths.specs.Mesh.{Mesh, width}
 use Rattle.mesh.specs.Kinds.{meshOf, known}
-use Rattle.mesh.specs.Laws.{known-small}
+use Rattle.mesh.specs.Limits.{known-width}
 use Rattle.mesh.specs.Requests.{neither-wanting}
 use Rattle.mesh.specs.declared.Mesh as code
-use Rattle.sheet.specs.Format.{VERSION, HEAD, lengthAt, versionAt, kindAt, sizeAt, countAt, sourceAt}
-use Rattle.sheet.specs.Says.{flawNumber, before}
+use Rattle.sheet.specs.Format.{VERSION, HEAD, lengthAt, versionAt, kindAt, sizeAt, countAt}
+use Rattle.sheet.specs.Says.{flawNumber, before, reads, readNumber, readKind, readSize, readSource, readCount, readingTold}
 use Rattle.sheet.specs.Flaws.{flaw-some, flawed-none}
 use Rattle.sheet.specs.declared.Flaw.{Flaw}
 use Rattle.sheet.specs.declared.Flaw.the-variants as flaw
-use Rattle.sheet_check.specs.Says.{reads, readNumber, readKind, readSize, readSource, readCount, readingTold, cut, badCount, meshAt, headAgainst, pathsAgainst, checkAgainst, sheetTold}
+use Rattle.sheet_check.specs.Says.{cut, badCount, meshAt, headAgainst, pathsAgainst, checkAgainst, sheetTold}
 use Rattle.sheet_check.specs.Needs.{Bodied}
 use Rattle.sheet_check.specs.Told.{told-flaw}
-use Rattle.sheet_check.specs.declared.Reading.{Reading}
-use Rattle.sheet_check.specs.declared.Reading.the-variants as reading
+use Rattle.sheet.specs.declared.Reading.{Reading}
+use Rattle.sheet.specs.declared.Reading.the-variants as reading
 
 module _ (l : List ℕ) where
   -- the head is read
@@ -72,7 +72,7 @@ module _ {l : List ℕ} {kind size s k : ℕ} (b : Bodied l kind size s k) where
     longest-is = omega (arith, e)
 
     pub body-small : w - 1 ≤ 206
-    body-small = omega (arith, e, known-small kind size body-known .1)
+    body-small = omega (arith, e, known-width kind size body-known)
 
   -- what is told of the paths is told of the sheet
   pub body-checked : (r : Reading) → readingTold r ≡ sheetTold l (pathsAgainst l) → readingTold r ≡ sheetTold l (checkAgainst l)

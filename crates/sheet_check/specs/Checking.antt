@@ -12,19 +12,18 @@ use lib.Dec.{eqb}
 use borrow.Author.Tests.{eq-eqb, ne-eqb}
 use Rattle.paths.specs.Mesh.{Mesh}
 use Rattle.mesh.specs.Kinds.{meshOf}
-use Rattle.mesh.specs.Laws.{known-small}
+use Rattle.mesh.specs.Limits.{mostLinks, mostPlaces, known-links, known-width, known-places}
 use Rattle.mesh.specs.declared.Mesh as code
 use Rattle.judge.specs.Says.{Ruling, numberOf}
-use Rattle.sheet.specs.Format.{HEAD, kindAt, sizeAt, countAt, sourceAt, pathsAt}
-use Rattle.sheet.specs.Says.{flawed, before}
-use Rattle.sheet.specs.Most.{known-room}
+use Rattle.sheet.specs.Format.{HEAD, kindAt, sizeAt, countAt, pathsAt}
+use Rattle.sheet.specs.Says.{flawed, before, reads, readingTold}
 use Rattle.sheet.specs.declared.Flaw.{Flaw}
 use Rattle.sheet.specs.declared.Flaw.the-variants as flaw
 use Rattle.sheet_take.specs.Says.{looked}
-use Rattle.sheet_check.specs.Says.{reads, readingTold, rulingOf, meshAt, sheetRuling, unjudged, pathsAgainst, sheetTold}
+use Rattle.sheet_check.specs.Says.{rulingOf, meshAt, sheetRuling, unjudged, pathsAgainst, sheetTold}
 use Rattle.sheet_check.specs.Needs.{Bodied, Judgeable}
 use Rattle.sheet_check.specs.Bodied.{mesh-is, body-known, body-few}
-use Rattle.sheet_check.specs.declared.Reading.the-variants as reading
+use Rattle.sheet.specs.declared.Reading.the-variants as reading
 
 module _ {l : List ℕ} {kind size s k : ℕ} (b : Bodied l kind size s k) {longest : ℕ} (e : longest ≡ meshOf kind size .longest) where
   pub looked-is : looked longest l HEAD 0 k ≡ looked (meshAt l .longest) l HEAD 0 (countAt l)
@@ -37,18 +36,17 @@ module _ {l : List ℕ} {kind size s k : ℕ} (b : Bodied l kind size s k) {long
   paths-flawed h = ap (sheetTold l) (paths-is {y = unjudged l} h refl)
 
   module _ (h : none ≡ looked longest l HEAD 0 k) where
-    pub paths-judgeable : Judgeable l kind size longest k 1242 32 32
+    pub paths-judgeable : Judgeable l kind size longest k mostPlaces mostLinks mostLinks
     paths-judgeable =
-        let small = known-small kind size (body-known b) in
         let all = mul-le-mul-right (longest + 1) (body-few b) in
         record {
           wide = e;
           taken = record {
             sound = sym h;
-            small = omega (arith, e, small .1);
-            room = omega (arith, all, known-room kind size (body-known b), ap (λ (x : ℕ). meshOf kind size .links * (x + 1)) e);
-            counted = omega (arith, body-few b, small .0);
-            aimed = omega (arith, body-few b, small .0);
+            small = omega (arith, e, known-width kind size (body-known b));
+            room = omega (arith, all, known-places kind size (body-known b), ap (λ (x : ℕ). meshOf kind size .links * (x + 1)) e);
+            counted = omega (arith, body-few b, known-links kind size (body-known b));
+            aimed = omega (arith, body-few b, known-links kind size (body-known b));
           };
         }
 

@@ -3,7 +3,7 @@
 use Prim.Native.Nat.{ℕ, _-_}
 use mathlib.Core.Bool.{Bool, true, false, not}
 use mathlib.Core.List.{List}
-use mathlib.Core.Option.{Option, none, some}
+use mathlib.Core.Option.{Option, none}
 use lib.Dec.{eqb, ltb}
 use lib.ListN.{length}
 use Rattle.scan.specs.Scan.{pick}
@@ -11,42 +11,10 @@ use Rattle.paths.specs.Mesh.{Mesh}
 use Rattle.mesh.specs.Kinds.{kindOf, meshOf, known}
 use Rattle.judge.specs.Says.{Ruling, numberOf, judgeTold}
 use Rattle.sheet.specs.Format.{VERSION, HEAD, lengthAt, versionAt, kindAt, sizeAt, countAt, sourceAt, pathsAt, placesOf, countsOf, targetsOf}
-use Rattle.sheet.specs.Says.{flawNumber, flawPath, flawed, before}
+use Rattle.sheet.specs.Says.{flawed, before, ReadTold, tellRead}
 use Rattle.sheet.specs.declared.Flaw.{Flaw}
 use Rattle.sheet.specs.declared.Flaw.the-variants as flaw
 use Rattle.sheet_take.specs.Says.{looked}
-use Rattle.sheet_check.specs.declared.Reading.{Reading}
-use Rattle.sheet_check.specs.declared.Reading.the-variants as reading
-
--- number and path; kind, size, source and how many paths
-pub data ReadTold : Type 0 where
-  reads : (number path kind size source k : ℕ) → ReadTold
-
-abbrev pub readNumber : ReadTold → ℕ
-readNumber (reads n i kind size s k) = n
-
-abbrev pub readPath : ReadTold → ℕ
-readPath (reads n i kind size s k) = i
-
-abbrev pub readKind : ReadTold → ℕ
-readKind (reads n i kind size s k) = kind
-
-abbrev pub readSize : ReadTold → ℕ
-readSize (reads n i kind size s k) = size
-
-abbrev pub readSource : ReadTold → ℕ
-readSource (reads n i kind size s k) = s
-
-abbrev pub readCount : ReadTold → ℕ
-readCount (reads n i kind size s k) = k
-
-abbrev pub tellRead : Option Flaw → (kind size source k : ℕ) → ReadTold
-tellRead none kind size s k = reads 0 0 kind size s k
-tellRead (some f) kind size s k = reads (flawNumber f) (flawPath f) 0 0 0 0
-
-abbrev pub readingTold : Reading → ReadTold
-readingTold (reading.Fan m s k) = tellRead none (m .kind) (m .size) s k
-readingTold (reading.Refused f) = tellRead (some f) 0 0 0 0
 
 -- 30: too few bytes for the head, or a length that is not that of what follows it
 abbrev pub cut : List ℕ → Bool

@@ -5,10 +5,10 @@ use mathlib.Core.Path.{_≡_, refl, sym, ap, ap₂, _∙_}
 use mathlib.Core.List.{List}
 use mathlib.Core.Option.{Option, none, some}
 use borrow.Author.Tests.{eqb-false}
-use Rattle.sheet.specs.Says.{flawNumber}
+use Rattle.sheet.specs.Says.{flawNumber, reads, readNumber, readPath, tellRead}
 use Rattle.sheet.specs.Flaws.{flawAt, flaw-back, flaw-some}
 use Rattle.sheet.specs.declared.Flaw.{Flaw}
-use Rattle.sheet_check.specs.Says.{reads, readNumber, readPath, tellRead, sheetTold}
+use Rattle.sheet_check.specs.Says.{sheetTold}
 
 module _ (l : List ℕ) where
   pub told-flaw : (o : Option Flaw) {f : Flaw} → tellRead (some f) 0 0 0 0 ≡ sheetTold l o → some f ≡ o

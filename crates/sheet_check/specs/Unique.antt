@@ -6,10 +6,10 @@ use mathlib.Core.List.{List}
 use lib.Dec.{eqb}
 use Rattle.scan.specs.Scan.{pick}
 use Rattle.sheet.specs.Flaws.{flawAt, flaw-back, flaw-some}
-use Rattle.sheet.specs.Says.{flawNumber, flawPath}
-use Rattle.sheet_check.specs.Says.{ReadTold, reads, readingTold, checkAgainst, sheetTold}
-use Rattle.sheet_check.specs.declared.Reading.{Reading}
-use Rattle.sheet_check.specs.declared.Reading.the-variants as reading
+use Rattle.sheet.specs.Says.{flawNumber, flawPath, ReadTold, reads, readingTold}
+use Rattle.sheet_check.specs.Says.{checkAgainst, sheetTold}
+use Rattle.sheet.specs.declared.Reading.{Reading}
+use Rattle.sheet.specs.declared.Reading.the-variants as reading
 
 readingOf : ReadTold → Reading
 readingOf (reads n i kind size s k) = pick (eqb n 0) (reading.Fan (record { kind = kind; size = size }) s k) (reading.Refused (flawAt n i))

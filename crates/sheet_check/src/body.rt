@@ -1,14 +1,16 @@
 // The paths after the head of a sheet, looked through and then judged.
 ghost use mathlib.Core.Path.{_≡_};
 ghost use lib.ListN.{length};
+ghost use Rattle.mesh.specs.Limits.{mostLinks, mostPlaces};
 ghost use Rattle.judge.specs.Says.{verdictTold};
 ghost use Rattle.sheet.specs.Format.{HEAD, pathsAt};
-ghost use Rattle.sheet_check.specs.Says.{readingTold, sheetTold, pathsAgainst, rulingOf};
+ghost use Rattle.sheet.specs.Says.{readingTold};
+ghost use Rattle.sheet_check.specs.Says.{sheetTold, pathsAgainst, rulingOf};
 ghost use Rattle.sheet_check.specs.Needs.{Bodied, Judgeable};
-use crate::Reading;
 use judge::Verdict;
 use mesh::Mesh;
 use sheet::Flaw;
+use sheet::Reading;
 use sheet_take::Looked;
 
 // The judge's verdict on the k paths, which were looked through, and on what they are asked for. They are taken into the slices lent for that.
@@ -30,14 +32,14 @@ fn judged_in(
     judge::judge(mesh, source, &targets[..k], &places[..end], &counts[..k])
 }
 
-// The same, in room of its own: 32 paths of a cube take 1,088 places, and 6 of a two-level mesh 1,242.
+// The same, in room of its own: as much as any mesh wants.
 fn judged(mesh: Mesh, source: u64, longest: usize, k: usize, bytes: &[u8]) -> Verdict
-    requires { ⌜ Judgeable (now bytes) (mesh .kind) (mesh .size) longest k 1242 32 32 ⌝ }
+    requires { ⌜ Judgeable (now bytes) (mesh .kind) (mesh .size) longest k mostPlaces mostLinks mostLinks ⌝ }
     ensures { λ r. ⌜ verdictTold r ≡ rulingOf (mesh .kind) (mesh .size) source (pathsAt (now (bytes .entry)) HEAD k) ⌝ }
 {
-    let mut places = [0u64; 1242];
-    let mut counts = [0u64; 32];
-    let mut targets = [0u64; 32];
+    let mut places = [0u64; mesh::MOST_PLACES];
+    let mut counts = [0u64; mesh::MOST_LINKS];
+    let mut targets = [0u64; mesh::MOST_LINKS];
     judged_in(
         mesh,
         source,

@@ -2,10 +2,11 @@
 ghost use mathlib.Core.Path.{_≡_};
 ghost use mathlib.Core.Bool.{true};
 ghost use Rattle.mesh.specs.Kinds.{meshOf, known};
-ghost use Rattle.sheet_check.specs.Says.{readingTold, tellRead, sheetTold, headAgainst, countAgainst};
-use crate::Reading;
+ghost use Rattle.sheet.specs.Says.{readingTold, tellRead};
+ghost use Rattle.sheet_check.specs.Says.{sheetTold, headAgainst, countAgainst};
 use mesh::Mesh;
 use sheet::Flaw;
+use sheet::Reading;
 
 // The mesh, the source and how many paths, where so many can be asked for.
 fn counted(mesh: Mesh, source: u64, k: usize) -> Reading

@@ -1,6 +1,6 @@
 -- Why the reader keeps its promise: what is wrong with the head (`head-refused`), want of room (`body-short`), what is wrong with the paths (`body-flawed`), and else the paths taken into
 -- the lent slices (`body-taken`, `body-fan`). Assumes nothing.
-use Prim.Native.Nat.{ℕ, _+_, _*_}
+use Prim.Native.Nat.{ℕ}
 use mathlib.Core.Path.{_≡_, refl, sym, ap, ap₂, _∙_, subst}
 use mathlib.Core.Bool.{Bool, true, false}
 use mathlib.Core.List.{List, _++_}
@@ -12,12 +12,12 @@ use borrow.Author.Tests.{ltb-false}
 use Rattle.scan.specs.Scan.{pick}
 use Rattle.paths.specs.Mesh.{Mesh}
 use Rattle.mesh.specs.Kinds.{meshOf}
-use Rattle.mesh.specs.Laws.{known-small}
+use Rattle.mesh.specs.Limits.{known-width}
 use Rattle.mesh.specs.Says.{short}
 use Rattle.mesh.specs.Requests.{neither-wanting, room-enough}
 use Rattle.mesh.specs.declared.Mesh as code
 use Rattle.sheet.specs.Format.{HEAD, kindAt, sizeAt, countAt, sourceAt}
-use Rattle.sheet.specs.Says.{flawed, before, settled}
+use Rattle.sheet.specs.Says.{flawed, before, settled, reads, readingTold}
 use Rattle.sheet.specs.Flaws.{before-none}
 use Rattle.sheet.specs.Pieces.{at-front}
 use Rattle.sheet.specs.Lengths.{counts-length, targets-length, paths-length}
@@ -25,12 +25,12 @@ use Rattle.sheet.specs.declared.Flaw.{Flaw}
 use Rattle.sheet.specs.declared.Flaw.the-variants as flaw
 use Rattle.sheet_take.specs.Says.{looked, TakenPaths}
 use Rattle.sheet_take.specs.Needs.{Taken}
-use Rattle.sheet_check.specs.Says.{reads, readingTold, meshAt, sheetPaths, sheetTargets, sheetPlaces, sheetCounts, headAgainst, pathsAgainst, sheetTold}
+use Rattle.sheet_check.specs.Says.{meshAt, sheetPaths, sheetTargets, sheetPlaces, sheetCounts, headAgainst, pathsAgainst, sheetTold}
 use Rattle.sheet_check.specs.Needs.{Bodied}
 use Rattle.sheet_check.specs.Told.{told-flaw, told-none}
 use Rattle.sheet_check.specs.Bodied.{head-flaw, mesh-is, body-known}
-use Rattle.sheet_check.specs.declared.Reading.{Reading}
-use Rattle.sheet_check.specs.declared.Reading.the-variants as reading
+use Rattle.sheet.specs.declared.Reading.{Reading}
+use Rattle.sheet.specs.declared.Reading.the-variants as reading
 use Rattle.sheet_read.specs.Says.{lacking, readsAgainst, Read}
 
 -- a refusal leaves all as it was
@@ -81,7 +81,7 @@ module _ {l : List ℕ} {kind size s k : ℕ} (b : Bodied l kind size s k) (plac
             let room = room-enough (meshAt l) (countAt l) (length places) (length counts) (w .0) in
             record {
               sound = before-none (looked (meshAt l .longest) l HEAD 0 (countAt l)) _ nothing .0;
-              small = omega (arith, ap (λ (x : Mesh). x .longest) (mesh-is b), known-small kind size (body-known b) .1);
+              small = omega (arith, ap (λ (x : Mesh). x .longest) (mesh-is b), known-width kind size (body-known b));
               room = room .0;
               counted = room .1;
               aimed = ltb-false (length targets) (countAt l) (w .1);

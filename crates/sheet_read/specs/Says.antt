@@ -10,11 +10,11 @@ use lib.ListN.{length, drop}
 use Rattle.scan.specs.Scan.{pick}
 use Rattle.mesh.specs.Says.{short}
 use Rattle.sheet.specs.Format.{countAt}
-use Rattle.sheet.specs.Says.{flawed, before, settled}
+use Rattle.sheet.specs.Says.{flawed, before, settled, readingTold}
 use Rattle.sheet.specs.declared.Flaw.{Flaw}
 use Rattle.sheet.specs.declared.Flaw.the-variants as flaw
-use Rattle.sheet_check.specs.Says.{readingTold, meshAt, sheetTargets, sheetPlaces, sheetCounts, headAgainst, pathsAgainst, sheetTold}
-use Rattle.sheet_check.specs.declared.Reading.{Reading}
+use Rattle.sheet_check.specs.Says.{meshAt, sheetTargets, sheetPlaces, sheetCounts, headAgainst, pathsAgainst, sheetTold}
+use Rattle.sheet.specs.declared.Reading.{Reading}
 
 module _ (l : List ℕ) where
   -- 8: too few places or counts, or too few places for targets

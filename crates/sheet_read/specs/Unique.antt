@@ -3,7 +3,7 @@ use Prim.Native.Nat.{ℕ}
 use mathlib.Core.Path.{_≡_, sym, _∙_}
 use mathlib.Core.List.{List}
 use Rattle.sheet_check.specs.Unique.{reading-unique}
-use Rattle.sheet_check.specs.declared.Reading.{Reading}
+use Rattle.sheet.specs.declared.Reading.{Reading}
 use Rattle.sheet_read.specs.Says.{Read}
 
 module _ (l places counts targets : List ℕ) where

@@ -10,7 +10,7 @@ ghost use Rattle.sheet_check.specs.Needs.{Bodied};
 ghost use Rattle.sheet_read.specs.Says.{Read};
 use mesh::Mesh;
 use sheet::Flaw;
-use sheet_check::Reading;
+use sheet::Reading;
 
 // Whether so many places, counts and places for targets are too few for k paths.
 fn lacking(mesh: Mesh, k: usize, places: usize, counts: usize, targets: usize) -> bool

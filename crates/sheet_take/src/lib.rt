@@ -1,9 +1,8 @@
 // The paths of a sheet looked through, and then taken out of its bytes. Inner: callers meet each `requires`.
 ghost use mathlib.Core.Path.{_≡_};
 ghost use Prim.Native.Nat.{_+_, _*_, _≤_, _<_};
-ghost use lib.ListN.{length, replicate};
+ghost use lib.ListN.{length};
 ghost use lib.Seq.{sets};
-ghost use Rattle.paths.specs.Fan.{filler};
 ghost use Rattle.sheet.specs.Format.{HEAD, after, relaysAt, row};
 ghost use Rattle.sheet_take.specs.Says.{looked, wrongAt, tellStride, strideTold, lookedOf, TakenPaths};
 ghost use Rattle.sheet_take.specs.Needs.{Taken};
@@ -78,18 +77,6 @@ pub fn take_relays(bytes: &[u8], at: usize, n: usize, to: usize, places: &mut [u
     }
 }
 
-// Puts the filler into n places.
-fn fill(places: &mut [u64], from: usize, n: usize)
-    requires { ⌜ from + n ≤ length (now places) ⌝ }
-    ensures { λ _. ⌜ now (places .exit) ≡ sets (now (places .entry)) from (replicate n filler) ⌝ }
-{
-    let mut i: usize = 0;
-    while i < n {
-        places[from + i] = FILLER;
-        i += 1;
-    }
-}
-
 // Takes a path of h hops, whose relays begin at the place `at`, into its row, of so many hops at most: the source first, filler after the end.
 fn take_path(
     bytes: &[u8],
@@ -105,7 +92,7 @@ fn take_path(
 {
     places[to] = source;
     take_relays(bytes, at, h, to + 1, places);
-    fill(places, to + 1 + h, longest - h);
+    scan::fill(places, to + 1 + h, longest - h, FILLER);
 }
 
 // Takes k paths, which were looked through, into their rows, with their hops and their last relays.

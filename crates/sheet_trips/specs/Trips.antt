@@ -17,17 +17,17 @@ use Rattle.sheet.specs.Flaws.{flaw-some}
 use Rattle.sheet.specs.Format.{HEAD, kindAt, sizeAt, countAt, sourceAt}
 use Rattle.sheet.specs.Judging.{judged}
 use Rattle.sheet.specs.Lengths.{paths-length, targets-length}
-use Rattle.sheet.specs.Says.{settled, flawNumber}
+use Rattle.sheet.specs.Says.{settled, flawNumber, wrote, tellWritten, reads, tellRead}
 use Rattle.sheet.specs.declared.Flaw.{Flaw}
-use Rattle.sheet_write.specs.Says.{wrote, tellWritten, sheet, ruled, writeAgainst, Wrote}
+use Rattle.sheet_write.specs.Says.{sheet, ruled, writeAgainst, Wrote}
 use Rattle.sheet_write.specs.Unique.{wrote-unique}
-use Rattle.sheet_write.specs.declared.Written.{Written}
-use Rattle.sheet_write.specs.declared.Written.the-variants as written
-use Rattle.sheet_check.specs.Says.{reads, tellRead, sheetPaths, sheetTargets, sheetPlaces, sheetCounts}
+use Rattle.sheet.specs.declared.Written.{Written}
+use Rattle.sheet.specs.declared.Written.the-variants as written
+use Rattle.sheet_check.specs.Says.{sheetPaths, sheetTargets, sheetPlaces, sheetCounts}
 use Rattle.sheet_read.specs.Says.{readsAgainst, Read}
 use Rattle.sheet_check.specs.Unique.{reading-unique}
-use Rattle.sheet_check.specs.declared.Reading.{Reading}
-use Rattle.sheet_check.specs.declared.Reading.the-variants as reading
+use Rattle.sheet.specs.declared.Reading.{Reading}
+use Rattle.sheet.specs.declared.Reading.the-variants as reading
 use Rattle.sheet_trips.specs.Accepted.{write-granted}
 use Rattle.sheet_trips.specs.TripsRead.{ReadsBack, write-read}
 use Rattle.sheet_trips.specs.TripsWrite.{read-write}

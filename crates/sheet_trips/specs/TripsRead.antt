@@ -10,7 +10,7 @@ use lib.ListN.{length, take}
 use lib.Seq.{getD-take, length-take-le}
 use Rattle.paths.specs.Mesh.{Mesh, width}
 use Rattle.mesh.specs.Kinds.{kindOf, meshOf, known}
-use Rattle.mesh.specs.Laws.{known-small, known-relays}
+use Rattle.mesh.specs.Limits.{known-links, known-width, known-relays}
 use Rattle.mesh.specs.Requests.{Fine}
 use Rattle.judge.specs.Says.{numberOf, judgeTold}
 use Rattle.sheet.specs.Format.{HEAD, pathsBytes, sheetOf, kindAt, sizeAt, countAt, sourceAt, pathsAt, placesOf, countsOf, targetsOf, pathsOf}
@@ -62,7 +62,7 @@ module _ (kind size s : ℕ) (targets places counts : List ℕ) (e : numberOf (j
   fine = judged-fine (kindOf kind) size s targets is-judged
 
   few-hops : m .longest ≤ 206
-  few-hops = omega (arith, known-small kind size (fine .known) .1)
+  few-hops = omega (arith, known-width kind size (fine .known))
 
   narrow : m .relays ≤ 2 ^ 64
   narrow = omega (arith, known-relays kind size (fine .known))
@@ -76,7 +76,7 @@ module _ (kind size s : ℕ) (targets places counts : List ℕ) (e : numberOf (j
   few-bytes : 12 + bytesOf ps < 256 ^ 4
   few-bytes =
       let within = within-of m s places counts targets (is-judged .fan) in
-      let few : length ps ≤ 32 = omega (arith, how-many, fine .sound .few, known-small kind size (fine .known) .0) in
+      let few : length ps ≤ 32 = omega (arith, how-many, fine .sound .few, known-links kind size (fine .known)) in
       let path : 2 + 8 * m .longest ≤ 1650 = omega (arith, few-hops) in
       omega (arith, bytes-most (m .longest) ps within, mul-le-mul few path)
 

@@ -6,7 +6,6 @@ use mathlib.Core.List.{List, _++_}
 use mathlib.Core.Option.{Option, none}
 use native.Mathlib.Nat.{zero-add}
 use native.Mathlib.Omega.{arith}
-use native.Mathlib.Decide.{ℕ-discrete}
 use lib.Dec.{ltb}
 use lib.ListN.{length, drop}
 use lib.Seq.{sets, sets-eq}
@@ -14,20 +13,20 @@ use borrow.Author.Tests.{lt-ltb, le-ltb}
 use Rattle.scan.specs.Runs.{sets-append}
 use Rattle.paths.specs.Mesh.{width}
 use Rattle.cube.specs.Sizes.{known-most}
-use Rattle.two.specs.Parts.{known-bounds}
-use Rattle.mesh.specs.Kinds.{CUBE, meshOf}
-use Rattle.mesh.specs.Laws.{known-cube, known-two, known-kind}
+use Rattle.two_parts.specs.Parts.{known-bounds}
+use Rattle.mesh.specs.Kinds.{Kind, meshOf}
+use Rattle.mesh.specs.Laws.{known-case}
 use Rattle.sheet.specs.Format.{pathsBytes, pathsOf}
 use Rattle.sheet.specs.Lengths.{sheet-length, pathsFrom-length}
-use Rattle.sheet.specs.Says.{flawed, settled}
+use Rattle.sheet.specs.Says.{flawed, settled, wrote, tellWritten}
 use Rattle.sheet.specs.declared.Flaw.{Flaw}
 use Rattle.sheet.specs.declared.Flaw.the-variants as flaw
 use Rattle.sheet_put.specs.Needs.{Paths}
 use Rattle.sheet_put.specs.Total.{total, paths-total, total-most}
 use Rattle.sheet_write.specs.Heads.{headBytes, head-length, sheet-is}
 use Rattle.sheet_write.specs.Needs.{Sheeted}
-use Rattle.sheet_write.specs.Says.{wrote, tellWritten, bytes, putAgainst, Put}
-use Rattle.sheet_write.specs.declared.Written.the-variants as written
+use Rattle.sheet_write.specs.Says.{bytes, putAgainst, Put}
+use Rattle.sheet.specs.declared.Written.the-variants as written
 
 module _ (kind size s k : ℕ) (places counts out : List ℕ) (a : Sheeted kind size k (length places) counts) where
   abbrev w : ℕ
@@ -44,11 +43,9 @@ module _ (kind size s k : ℕ) (places counts out : List ℕ) (a : Sheeted kind 
 
   -- kind, size and how many paths take a byte each
   single : (kind < 256) × (size < 256)
-  single = go (ℕ-discrete kind CUBE)
-    where
-      go : Dec (kind ≡ CUBE) → (kind < 256) × (size < 256)
-      go (yes e) = let most = known-most size refl (known-cube kind size (a .known) e) in (omega arith, omega arith)
-      go (no ne) = let most = known-bounds size (known-two kind size (a .known) ne) .1 in (omega (arith, known-kind kind size (a .known) ne), omega arith)
+  single = known-case kind size (a .known) (λ (k : ℕ) (K : Kind). (k < 256) × (size < 256))
+      (λ h. let most = known-most size refl h in (omega arith, omega arith))
+      (λ h. let most = known-bounds size h .1 in (omega arith, omega arith))
 
   module _ {n : ℕ} (e : n ≡ total counts k) where
     long : length (bytes kind size s k places counts) ≡ n + 16

@@ -12,29 +12,10 @@ use Rattle.paths.specs.Mesh.{width}
 use Rattle.mesh.specs.Kinds.{kindOf, meshOf}
 use Rattle.judge.specs.Says.{numberOf, judgeTold}
 use Rattle.sheet.specs.Format.{sheetOf, pathsOf}
-use Rattle.sheet.specs.Says.{flawNumber, flawed, settled}
+use Rattle.sheet.specs.Says.{flawed, settled, tellWritten, writtenTold}
 use Rattle.sheet.specs.declared.Flaw.{Flaw}
 use Rattle.sheet.specs.declared.Flaw.the-variants as flaw
-use Rattle.sheet_write.specs.declared.Written.{Written}
-use Rattle.sheet_write.specs.declared.Written.the-variants as written
-
--- number and the length of the sheet
-pub data WriteTold : Type 0 where
-  wrote : (number bytes : ℕ) → WriteTold
-
-abbrev pub writtenNumber : WriteTold → ℕ
-writtenNumber (wrote n bytes) = n
-
-abbrev pub writtenBytes : WriteTold → ℕ
-writtenBytes (wrote n bytes) = bytes
-
-abbrev pub tellWritten : Option Flaw → ℕ → WriteTold
-tellWritten none n = wrote 0 n
-tellWritten (some f) n = wrote (flawNumber f) 0
-
-abbrev pub writtenTold : Written → WriteTold
-writtenTold (written.Bytes n) = tellWritten none n
-writtenTold (written.Refused f) = tellWritten (some f) 0
+use Rattle.sheet.specs.declared.Written.{Written}
 
 -- the sheet of k paths
 abbrev pub bytes : (kind size s k : ℕ) (places counts : List ℕ) → List ℕ

@@ -9,11 +9,11 @@ use lib.Dec.{eqb, ltb}
 use lib.ListN.{length}
 use Rattle.scan.specs.Scan.{pick}
 use Rattle.sheet.specs.Flaws.{flawAt, flaw-back, flaw-some, no-path}
-use Rattle.sheet.specs.Says.{flawNumber, flawed}
+use Rattle.sheet.specs.Says.{flawNumber, flawed, WriteTold, wrote, tellWritten, writtenTold}
 use Rattle.sheet.specs.declared.Flaw.the-variants as flaw
-use Rattle.sheet_write.specs.Says.{WriteTold, wrote, tellWritten, writtenTold, sheet, ruled, writeAgainst, Wrote}
-use Rattle.sheet_write.specs.declared.Written.{Written}
-use Rattle.sheet_write.specs.declared.Written.the-variants as written
+use Rattle.sheet_write.specs.Says.{sheet, ruled, writeAgainst, Wrote}
+use Rattle.sheet.specs.declared.Written.{Written}
+use Rattle.sheet.specs.declared.Written.the-variants as written
 
 -- a refusal of the writer tells no path, and the flaws that it has are not the one with a path
 writtenOf : WriteTold → Written

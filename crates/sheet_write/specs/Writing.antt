@@ -12,28 +12,27 @@ use lib.ListN.{length, drop}
 use borrow.Author.Tests.{eq-eqb, ne-eqb}
 use Rattle.scan.specs.Scan.{pick}
 use Rattle.mesh.specs.Kinds.{kindOf}
-use Rattle.mesh.specs.Laws.{known-small}
+use Rattle.mesh.specs.Limits.{known-links, known-width}
 use Rattle.sheet.specs.Judging.{Judged, judged, judged-fine}
-use Rattle.sheet.specs.Says.{settled}
+use Rattle.sheet.specs.Says.{settled, tellWritten}
 use Rattle.sheet.specs.declared.Flaw.{Flaw}
 use Rattle.sheet.specs.declared.Flaw.the-variants as flaw
 use Rattle.sheet_write.specs.Needs.{Sheeted}
-use Rattle.sheet_write.specs.Says.{tellWritten, sheet, ruled, writeAgainst, Wrote, Put, putAgainst}
-use Rattle.sheet_write.specs.declared.Written.{Written}
-use Rattle.sheet_write.specs.declared.Written.the-variants as written
+use Rattle.sheet_write.specs.Says.{sheet, ruled, writeAgainst, Wrote, Put, putAgainst}
+use Rattle.sheet.specs.declared.Written.{Written}
+use Rattle.sheet.specs.declared.Written.the-variants as written
 
 -- what the judge accepts can be written
 pub judged-sheeted : (kind size s : ℕ) (targets places counts : List ℕ) → Judged (kindOf kind) size s targets places counts → Sheeted kind size (length targets) (length places) counts
 judged-sheeted kind size s targets places counts j =
     let fine = judged-fine (kindOf kind) size s targets j in
-    let small = known-small kind size (fine .known) in
     record {
       known = fine .known;
       paths = record {
         headed = record {
-          few = omega (arith, fine .sound .few, small .0);
+          few = omega (arith, fine .sound .few, known-links kind size (fine .known));
           counted = j .counted;
-          short = λ i h. omega (arith, j .fan .path i h .short, small .1);
+          short = λ i h. omega (arith, j .fan .path i h .short, known-width kind size (fine .known));
         };
         room = j .room;
         within = λ i h. omega (arith, j .fan .path i h .short);

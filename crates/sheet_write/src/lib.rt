@@ -8,34 +8,7 @@ ghost use Rattle.sheet_write.specs.Needs.{Sheeted};
 ghost use Rattle.sheet_write.specs.Heads.{headBytes};
 use mesh::Mesh;
 use sheet::Flaw;
-
-// How many bytes the sheet takes, or why there is none.
-pub enum Written {
-    Bytes(usize),
-    Refused(Flaw),
-}
-
-impl Written {
-    // 0, or the number of what stands against it.
-    pub fn number(self) -> u64
-        ensures { λ r. ⌜ r ≡ says.writtenNumber (says.writtenTold self) ⌝ }
-    {
-        match self {
-            Written::Bytes(_) => 0,
-            Written::Refused(f) => f.number(),
-        }
-    }
-
-    // How many bytes the sheet takes, and 0 of a refusal.
-    pub fn bytes(self) -> usize
-        ensures { λ r. ⌜ r ≡ says.writtenBytes (says.writtenTold self) ⌝ }
-    {
-        match self {
-            Written::Bytes(n) => n,
-            Written::Refused(_) => 0,
-        }
-    }
-}
+use sheet::Written;
 
 // Writes the 16 bytes before the paths, which take n bytes.
 fn put_head(mesh: Mesh, source: u64, k: usize, n: usize, out: &mut [u8])

@@ -8,7 +8,7 @@ use lib.Count.{ones, onesIn, trailingZeros}
 use Rattle.bits.specs.Bit.{flip}
 use Rattle.scan.specs.Scan.{pick, seek}
 use Rattle.paths.specs.Walk as walk
-use Rattle.two.specs.Two.{joined, linked}
+use Rattle.two_parts.specs.Two.{joined, linked}
 use Rattle.two.specs.Next.{crossing, toward, heading, crossed, nextBlock, nextSlot, step, next, hops, route}
 
 -- those of the n numbers from i on at which the test holds

@@ -1,31 +1,20 @@
 -- What the inner functions ask, and that a pair which nothing stands against is `Fine`. Assumes nothing.
 use Prim.Native.Nat.{ℕ, _≤_, _<_}
 use mathlib.Core.Path.{_≡_, sym, ap, _∙_}
-use mathlib.Core.Bool.{true, false}
+use mathlib.Core.Bool.{false}
 use Rattle.answers.specs.Told.{against}
 use Rattle.answers.specs.Pairs.{pair-sound}
 use Rattle.answers.specs.declared.Checked.{Checked}
 use Rattle.answers.specs.declared.Checked.the-variants as checked
-use Rattle.two.specs.Two.{known, relays, slots, blocks}
+use Rattle.two_parts.specs.Two.{known, relays, slots, blocks}
+use Rattle.two_parts.specs.Needs.{Fine, Placed}
 use Rattle.two.specs.Next.{hops}
 use Rattle.two.specs.Says.{pairAgainst}
-
--- nothing against source and target
-pub record Fine (m s t : ℕ) : Type 0 where
-  pub order : known m ≡ true
-  pub source : s < relays m
-  pub target : t < relays m
 
 pub fine : (m s t : ℕ) {r : Checked} → r ≡ checked.Fine → against r ≡ pairAgainst m s t false → Fine m s t
 fine m s t f e =
     let p = pair-sound (known m) (relays m) s t (sym e ∙ ap against f) in
     record { order = p .0; source = p .1; target = p .2 }
-
--- a block and a slot of a mesh of order at most 5
-pub record Placed (m b p : ℕ) : Type 0 where
-  pub order : m ≤ 5
-  pub block : b < blocks m
-  pub slot : p < slots m
 
 -- the bits in which two blocks differ, and there are such
 pub record Apart (m x : ℕ) : Type 0 where

@@ -9,7 +9,7 @@ use Rattle.bits.specs.Bit.{flip}
 use Rattle.scan.specs.Scan.{pick}
 use Rattle.paths.specs.Mesh.{width}
 use Rattle.paths.specs.Walk as walk
-use Rattle.two.specs.Two.{blockOf, slotOf, relay, two}
+use Rattle.two_parts.specs.Two.{blockOf, slotOf, relay, two}
 
 -- of the bits in which two blocks differ, the one to correct first: the order of block bits is this definition's alone
 unfoldable pub crossing : (m x : ℕ) → ℕ

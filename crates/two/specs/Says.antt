@@ -1,33 +1,27 @@
 -- What the routines of the two-level mesh tell: refusals 1, 2, 5, 8 in this order, or the value. A routine that takes a block and a slot tells what
 -- the one that takes a relay's number tells of `named`: a part out of range is a relay out of range.
 use Prim.Native.Nat.{ℕ, _+_}
-use mathlib.Core.Bool.{Bool, false, not}
+use mathlib.Core.Bool.{Bool, false}
 use mathlib.Core.List.{List, _++_}
 use mathlib.Core.Option.{Option, none, some}
 use lib.Dec.{leb}
 use lib.ListN.{length, drop}
 use Rattle.answers.specs.Told.{Told, tell, leaves}
-use Rattle.answers.specs.Order.{Fault, first, sizeFaults, pairFaults, roomFaults}
+use Rattle.answers.specs.Order.{Fault, first, pairFaults, roomFaults}
 use Rattle.answers.specs.declared.Refusal.{Refusal}
 use Rattle.two.specs.declared.parts.Place.{Place}
 use Rattle.two.specs.declared.parts.Place.the-variants.{At, Refused}
-use Rattle.two.specs.Two.{known, relays, blockOf, slotOf, linked}
+use Rattle.two_parts.specs.Says.{sizeFaultsIn}
+use Rattle.two_parts.specs.Two.{relays, blockOf, slotOf, linked}
 use Rattle.two.specs.Next.{next, hops, route}
-use Rattle.two.specs.Seen.{seen}
+use Rattle.two_parts.specs.Seen.{seen}
 
--- what may stand against an order: 1; against a source and a target: 1, 2, 5, and 8 where there is no room
-abbrev pub sizeFaultsIn : (m : ℕ) → List Fault
-sizeFaultsIn m = sizeFaults (not (known m))
-
+-- what may stand against a source and a target: 1, 2, 5, and 8 where there is no room
 abbrev pub pairFaultsIn : (m s t : ℕ) (room : Bool) → List Fault
 pairFaultsIn m s t room = sizeFaultsIn m ++ pairFaults (relays m) s t ++ roomFaults room
 
 abbrev pub pairAgainst : (m s t : ℕ) (room : Bool) → Option Refusal
 pairAgainst m s t room = first (pairFaultsIn m s t room)
-
--- a fact of the order
-abbrev pub factTold : (m value : ℕ) → Told ℕ
-factTold m value = tell (first (sizeFaultsIn m)) 0 value
 
 -- block and slot
 abbrev pub placeTold : Place → Told (ℕ × ℕ)

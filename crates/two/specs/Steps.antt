@@ -18,12 +18,12 @@ use Rattle.scan.specs.Scan.{pick}
 use Rattle.paths.specs.Mesh.{width}
 use Rattle.paths.specs.Walk.{node, Arrives}
 use Rattle.paths.specs.Walks.{hops-is}
-use Rattle.two.specs.Two.{slots, blocks, relays, blockOf, slotOf, relay, linked, two}
+use Rattle.two_parts.specs.Two.{slots, blocks, relays, blockOf, slotOf, relay, linked, two}
 use Rattle.two.specs.Next.{crossing, toward, heading, crossed, nextBlock, nextSlot, next, hops}
 use Rattle.two.specs.Next as def
-use Rattle.two.specs.Digits.{lowest-alike}
-use Rattle.two.specs.Parts.{block-relay, slot-relay, relay-parts, relay-below, block-below, slot-below, same-parts}
-use Rattle.two.specs.Links.{Link, link-linked, link-within}
+use Rattle.two_parts.specs.Digits.{lowest-alike}
+use Rattle.two_parts.specs.Parts.{block-relay, slot-relay, relay-parts, relay-below, block-below, slot-below, same-parts}
+use Rattle.two_parts.specs.Links.{Link, link-linked, link-within}
 use Rattle.paths.specs.Ends.{walk-ends, node-keeps}
 
 -- ---- what is used of the choice of the block bit

@@ -4,18 +4,19 @@ ghost use mathlib.Core.List.{_++_};
 ghost use Prim.Native.Nat.{_+_};
 ghost use lib.ListN.{length, drop};
 ghost use Rattle.answers.specs.Told.{answerTold};
-ghost use Rattle.two.specs.Two as specs;
+ghost use Rattle.two_parts.specs.Two as specs;
 ghost use Rattle.two.specs.Next as next;
 ghost use Rattle.two.specs.Says.{routeTold, routeLeaves};
-ghost use Rattle.two.specs.Needs.{Fine, Room};
+ghost use Rattle.two.specs.Needs.{Room};
+ghost use Rattle.two_parts.specs.Needs.{Fine};
 use crate::parts;
-use crate::parts::Block;
-use crate::parts::Slot;
-use crate::sizes::Order;
 use crate::steps;
 use answers::Answer;
 use answers::Checked;
 use answers::Refusal;
+use two_parts::Block;
+use two_parts::Order;
+use two_parts::Slot;
 
 // How many hops it is from s to t: as many as it takes to arrive.
 fn hops(order: Order, s: u64, t: u64) -> usize

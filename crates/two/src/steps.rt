@@ -2,16 +2,17 @@
 ghost use mathlib.Core.Path.{_≡_};
 ghost use Prim.Native.Nat.{_<_};
 ghost use Rattle.answers.specs.Told.{answerTold};
-ghost use Rattle.two.specs.Two as specs;
+ghost use Rattle.two_parts.specs.Two as specs;
 ghost use Rattle.two.specs.Next as next;
 ghost use Rattle.two.specs.Says.{nextTold};
-ghost use Rattle.two.specs.Needs.{Fine, Apart, Slots, Between, Pair};
+ghost use Rattle.two.specs.Needs.{Apart, Slots, Between, Pair};
+ghost use Rattle.two_parts.specs.Needs.{Fine};
 use crate::parts;
-use crate::parts::Block;
-use crate::parts::Slot;
-use crate::sizes::Order;
 use answers::Answer;
 use answers::Checked;
+use two_parts::Block;
+use two_parts::Order;
+use two_parts::Slot;
 
 // Of the bits in which two blocks differ, the one to correct first: the slot at which to cross. The order of block bits is here alone.
 fn crossing(order: Order, x: u64) -> Slot
@@ -63,7 +64,7 @@ pub fn step(order: Order, b: Block, p: Slot, c: Block, q: Slot) -> u64
     ensures { λ r. ⌜ r ≡ next.step (order .0) (b .0) (p .0) (c .0) (q .0) ⌝ }
 {
     let h = heading(order, b, c, q);
-    parts::relay_of(order, crossed(b, p, c, h), toward(order, p, h))
+    two_parts::relay_of(order, crossed(b, p, c, h), toward(order, p, h))
 }
 
 // The relay after u on the way to t.
@@ -73,10 +74,10 @@ pub fn hop(order: Order, u: u64, t: u64) -> u64
 {
     step(
         order,
-        parts::block_of(order, u),
-        parts::slot_of(order, u),
-        parts::block_of(order, t),
-        parts::slot_of(order, t),
+        two_parts::block_of(order, u),
+        two_parts::slot_of(order, u),
+        two_parts::block_of(order, t),
+        two_parts::slot_of(order, t),
     )
 }
 

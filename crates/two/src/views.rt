@@ -1,76 +1,21 @@
 // The mesh as one of its relays sees it: that relay becomes relay 0, and links are kept.
 ghost use mathlib.Core.Path.{_≡_};
-ghost use Prim.Native.Nat.{_*_, _^_, _<_};
 ghost use Rattle.answers.specs.Told.{answerTold};
-ghost use Rattle.bits.specs.Bit.{bit};
-ghost use Rattle.two.specs.Two as specs;
-ghost use Rattle.two.specs.Seen as view;
+ghost use Rattle.two_parts.specs.Two as specs;
 ghost use Rattle.two.specs.Says.{seenTold};
-ghost use Rattle.two.specs.Needs.{Fine, Placed};
 use crate::parts;
-use crate::parts::Block;
-use crate::parts::Slot;
-use crate::sizes;
-use crate::sizes::Order;
 use answers::Answer;
 use answers::Checked;
-
-// Bit j of x, as it stands at place i.
-fn placed(x: u64, j: u64, i: u64) -> u64
-    requires { ⌜ (j < 64) × (i < 64) ⌝ }
-    ensures { λ r. ⌜ r ≡ bit j x * 2 ^ i ⌝ }
-{
-    ((x >> j) & 1) * sizes::pow(i)
-}
-
-// Block x seen from block a, slot b: x xor a with each bit moved from place p to place p xor b.
-pub fn seen_block(order: Order, a: Block, b: Slot, x: Block) -> Block
-    requires { ⌜ Placed (order .0) (a .0) (b .0) ⌝ }
-    ensures { λ r. ⌜ r .0 ≡ view.seenBlock (order .0) (a .0) (b .0) (x .0) ⌝ }
-{
-    let from = b.0;
-    let changed = x.0 ^ a.0;
-    let slots = sizes::slots_in(order);
-    let mut sum: u64 = 0;
-    let mut i: u64 = 0;
-    while i < slots {
-        sum += placed(changed, i ^ from, i);
-        i += 1;
-    }
-    Block(sum)
-}
-
-// Slot y seen from slot b.
-pub fn seen_slot(b: Slot, y: Slot) -> Slot
-    ensures { λ r. ⌜ r .0 ≡ view.seenSlot (b .0) (y .0) ⌝ }
-{
-    Slot(y.0 ^ b.0)
-}
-
-// The number of relay r as relay s sees it.
-pub fn seen_from(order: Order, s: u64, r: u64) -> u64
-    requires { ⌜ Fine (order .0) s r ⌝ }
-    ensures { λ n. ⌜ n ≡ view.seen (order .0) s r ⌝ }
-{
-    let b = parts::slot_of(order, s);
-    parts::relay_of(
-        order,
-        seen_block(
-            order,
-            parts::block_of(order, s),
-            b,
-            parts::block_of(order, r),
-        ),
-        seen_slot(b, parts::slot_of(order, r)),
-    )
-}
+use two_parts::Block;
+use two_parts::Order;
+use two_parts::Slot;
 
 // The number of target as source sees it, which itself is then relay 0; links are kept. `seen(Order(2), 27, 25)` is 2. Refuses with 1, 2, 5.
 pub fn seen(order: Order, source: u64, target: u64) -> Answer
     ensures { λ r. ⌜ answerTold r ≡ seenTold (order .0) source target ⌝ }
 {
     match parts::checked(order, source, target) {
-        Checked::Fine => Answer::Value(seen_from(order, source, target)),
+        Checked::Fine => Answer::Value(two_parts::seen_from(order, source, target)),
         Checked::Refused(why) => Answer::Refused(why),
     }
 }

@@ -33,7 +33,7 @@ pub fn add_if(set: u64, j: u32, yes: bool) -> u64
     ensures { λ r. ⌜ r ≡ added set j yes ⌝ }
 {
     if yes {
-        return set | cube_rows::pow(j);
+        return set | bits::power(j);
     }
     set
 }
@@ -61,7 +61,7 @@ fn values(vals: [u32; 8], set: u64) -> u64
     let mut r: u64 = 0;
     while todo != 0 {
         let j = bits::lowest(todo);
-        r = r | cube_rows::pow(vals[j as usize]);
+        r = r | bits::power(vals[j as usize]);
         todo = bits::flip(todo, j);
     }
     r
@@ -168,7 +168,7 @@ fn gates_of(m: u32, s0: u64, k: u32, blocks: [u64; 8], slots: [u32; 8], gated: u
         let j = bits::lowest(todo);
         let q = two_gate::gate_for(m, s0, k, blocks, slots, gates, done, j);
         gates[j as usize] = q;
-        done = done | cube_rows::pow(j);
+        done = done | bits::power(j);
         todo = bits::flip(todo, j);
     }
     gates
@@ -216,7 +216,7 @@ fn shut_doors(doors: u32, p0: u32, keep: u64, n: u32) -> u64
     requires { ⌜ DoorAsk doors p0 keep n ⌝ }
     ensures { λ r. ⌜ Opening doors p0 keep n r ⌝ }
 {
-    let mut shut = cube_rows::pow(doors) - 1;
+    let mut shut = bits::power(doors) - 1;
     let mut i: u32 = 0;
     while i < n {
         shut = bits::flip(shut, next_door(p0, keep, shut, i));
@@ -254,7 +254,7 @@ pub fn choose(m: u32, s0: u64, p0: u32, k: u32, blocks: [u64; 8], slots: [u32; 8
     let keep = kept | values(gates, straight);
     let reps = firsts(blocks, cube_rows::less(gated, hidden(s0, blocks, keep, k)));
     let crowds = values([8u32, 9, 10, 11, 12, 13, 14, 15], reps);
-    let singles = cube_rows::less(cube_rows::less(cube_rows::pow(k) - 1, inner), straight);
+    let singles = cube_rows::less(cube_rows::less(bits::power(k) - 1, inner), straight);
     let rows = singles | crowds;
     let ends = ends_of(blocks, behind, gated);
     let shut = shut_doors(1 << m, p0, keep, u64::count_ones(rows));

@@ -4,7 +4,7 @@ use mathlib.Core.Path.{_≡_, refl}
 use mathlib.Core.List.{List, [], _∷_}
 use lib.Count.{ones, onesIn}
 use Rattle.scan.specs.Scan.{seek, any}
-use Rattle.two.specs.Two.{joined, linked, two}
+use Rattle.two_parts.specs.Two.{joined, linked, two}
 use Rattle.paths.specs.Ways.{reaches, distance}
 
 -- the distances of the n relays from i on

@@ -12,10 +12,10 @@ use borrow.Author.Tests.{lt-ltb, le-ltb}
 use Rattle.answers.specs.Order.{first, sizeFaults, distanceFaults, pairFaults}
 use Rattle.answers.specs.declared.Refusal.{Refusal}
 use Rattle.answers.specs.declared.Refusal.the-variants.{UnknownSize, NoDistance}
-use Rattle.two.specs.Two.{known, relays, two}
-use Rattle.two.specs.Seen.{seen}
-use Rattle.two.specs.Moves.{unseen, seen-below, seen-home, seen-linked, unseen-below, unseen-seen, unseen-linked}
-use Rattle.two.specs.Parts.{bounds-known, high-unknown}
+use Rattle.two_parts.specs.Two.{known, relays, two}
+use Rattle.two_parts.specs.Seen.{seen}
+use Rattle.two_parts.specs.Moves.{unseen, seen-below, seen-home, seen-linked, unseen-below, unseen-seen, unseen-linked}
+use Rattle.two_parts.specs.Parts.{bounds-known, high-unknown}
 use Rattle.two.specs.Says.{pairAgainst}
 use Rattle.paths.specs.Ways.{Way, Shortest, distance, shortest-distance, way-map}
 use Rattle.two_distance.specs.Tables.{entry}

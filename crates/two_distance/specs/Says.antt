@@ -7,7 +7,7 @@ use lib.Dec.{ltb}
 use Rattle.answers.specs.Told.{Told, tell}
 use Rattle.answers.specs.Order.{Fault, first, sizeFaults, distanceFaults, pairFaults}
 use Rattle.answers.specs.declared.Refusal.{Refusal}
-use Rattle.two.specs.Two.{known, relays, two}
+use Rattle.two_parts.specs.Two.{known, relays, two}
 use Rattle.paths.specs.Ways.{distance}
 
 -- distance is not answered for orders above 3

@@ -15,9 +15,9 @@ use borrow.Author.Tests.{eqb-true, leb-true, ne-eqb}
 use Rattle.bits.specs.Bit.{flip}
 use Rattle.scan.specs.Scan.{pick, seek, any}
 use Rattle.scan.specs.Laws.{both-true, any-true}
-use Rattle.two.specs.Two.{relays, two}
-use Rattle.two.specs.Near.{near, near-linked, near-below, linked-near}
-use Rattle.two.specs.Links.{linked-sym}
+use Rattle.two_parts.specs.Two.{relays, two}
+use Rattle.two_parts.specs.Near.{near, near-linked, near-below, linked-near}
+use Rattle.two_parts.specs.Links.{linked-sym}
 use Rattle.two_distance.specs.Rule.{Rule, rule-shortest}
 use Rattle.paths.specs.Ways.{Shortest}
 use Rattle.two_distance.specs.Tables.{table1, table2, table3, words3, tableOf, entry, look}

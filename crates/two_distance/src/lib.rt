@@ -1,7 +1,7 @@
 // Distances: the fewest links between two relays of the two-level mesh, for orders 1 to 3.
 ghost use mathlib.Core.Path.{_≡_};
 ghost use Rattle.answers.specs.Told.{answerTold};
-ghost use Rattle.two.specs.Two.{named};
+ghost use Rattle.two_parts.specs.Two.{named};
 ghost use Rattle.two_distance.specs.Tables as specs;
 ghost use Rattle.two_distance.specs.Says.{Held, distanceTold};
 
@@ -51,7 +51,10 @@ pub fn distance(order: Order, source: u64, target: u64) -> Answer
         return Answer::Refused(Refusal::NoDistance);
     }
     match two::checked(order, source, target) {
-        Checked::Fine => Answer::Value(from_zero(order, two::seen_from(order, source, target))),
+        Checked::Fine => Answer::Value(from_zero(
+            order,
+            two_parts::seen_from(order, source, target),
+        )),
         Checked::Refused(why) => Answer::Refused(why),
     }
 }

@@ -16,7 +16,7 @@ use Rattle.paths.specs.Lists.{Lists}
 use Rattle.requests.specs.Sound.{Sound}
 use Rattle.cube_math.specs.Doors.{Way, Doors, In}
 use Rattle.cube_math.specs.Plain.{bit-full}
-use Rattle.two.specs.Two.{two}
+use Rattle.two_parts.specs.Two.{two}
 use Rattle.two_math.specs.Relays.{Relay, inside}
 use Rattle.two_math.specs.Sort.{Ask}
 use Rattle.two_math.specs.Plan.{Role, Draft}

@@ -17,9 +17,10 @@ ghost use Rattle.two_math.specs.Assemble.{most};
 ghost use Rattle.two_general.specs.Whole.{Painted};
 ghost use Rattle.two_general.specs.Draws.{Draws};
 ghost use Rattle.two_general.specs.General.{General};
-ghost use Rattle.two.specs.Two.{two};
+ghost use Rattle.two_parts.specs.Two.{two, blockOf, slotOf};
 ghost use Rattle.two_general.specs.Paths.{Held, Inner, Put, Pathed, Writes};
 use two_choose::Choice;
+use two_parts::Order;
 use two_takeover::Taken;
 
 // The slot by which the path of j leaves the source's block.
@@ -195,29 +196,37 @@ fn write_path(
 
 // ---- the targets, taken apart
 
-// The block of each target, where a block has `size` slots.
-fn blocks_of(size: u64, targets: &[u64]) -> [u64; 8]
-    requires { ⌜ (0 < size) × (length (now targets) ≤ 8) ⌝ }
-    ensures { λ r. ⌜ Filled 8 (length (now (targets .entry))) (λ j v. v ≡ at (now (targets .entry)) j / size) r ⌝ }
+// The block of each target.
+fn blocks_of(order: Order, targets: &[u64]) -> [u64; 8]
+    requires { ⌜ (order .0 ≤ 5) × (length (now targets) ≤ 8) ⌝ }
+    ensures { λ r. ⌜ Filled 8 (length (now (targets .entry))) (λ j v. v ≡ blockOf (order .0) (at (now (targets .entry)) j)) r ⌝ }
 {
     let mut r = [0u64; 8];
     let mut i: usize = 0;
     while i < targets.len() {
-        r[i] = targets[i] / size;
+        r[i] = two_parts::block_of(order, targets[i]).0;
         i += 1;
     }
     r
 }
 
+// The slot of a relay, as a bit's place.
+fn slot_of(order: Order, relay: u64) -> u32
+    requires { ⌜ order .0 ≤ 5 ⌝ }
+    ensures { λ r. ⌜ r ≡ slotOf (order .0) relay ⌝ }
+{
+    two_parts::slot_of(order, relay).0 as u32
+}
+
 // The slot of each target.
-fn slots_of(size: u64, targets: &[u64]) -> [u32; 8]
-    requires { ⌜ (0 < size) × (size ≤ 32) × (length (now targets) ≤ 8) ⌝ }
-    ensures { λ r. ⌜ Filled 8 (length (now (targets .entry))) (λ j v. v ≡ at (now (targets .entry)) j % size) r ⌝ }
+fn slots_of(order: Order, targets: &[u64]) -> [u32; 8]
+    requires { ⌜ (order .0 ≤ 5) × (length (now targets) ≤ 8) ⌝ }
+    ensures { λ r. ⌜ Filled 8 (length (now (targets .entry))) (λ j v. v ≡ slotOf (order .0) (at (now (targets .entry)) j)) r ⌝ }
 {
     let mut r = [0u32; 8];
     let mut i: usize = 0;
     while i < targets.len() {
-        r[i] = (targets[i] % size) as u32;
+        r[i] = slot_of(order, targets[i]);
         i += 1;
     }
     r
@@ -351,7 +360,7 @@ fn dimensions(n: u32) -> u64
     requires { ⌜ n < 64 ⌝ }
     ensures { λ r. ⌜ r ≡ 2 ^ n - 1 ⌝ }
 {
-    cube_rows::pow(n) - 1
+    bits::power(n) - 1
 }
 
 // The mask of a block's bits: one for each slot.
@@ -419,21 +428,11 @@ pub fn general(
     requires { ⌜ General m source w (now targets) (now places) (now counts) ⌝ }
     ensures { λ r. ⌜ Drawn (two m) source (now (targets .entry)) (now (places .entry)) (now (counts .entry)) (now (places .exit)) (now (counts .exit)) ⌝ }
 {
-    let size = cube_rows::pow(m);
-    let blocks = blocks_of(size, targets);
-    let slots = slots_of(size, targets);
-    let p0 = (source % size) as u32;
+    let order = Order(m as u64);
+    let blocks = blocks_of(order, targets);
+    let slots = slots_of(order, targets);
+    let s0 = two_parts::block_of(order, source).0;
+    let p0 = slot_of(order, source);
     let k = targets.len() as u32;
-    draw(
-        m,
-        source / size,
-        p0,
-        source,
-        k,
-        w,
-        blocks,
-        slots,
-        places,
-        counts,
-    );
+    draw(m, s0, p0, source, k, w, blocks, slots, places, counts);
 }

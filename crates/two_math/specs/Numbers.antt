@@ -10,8 +10,8 @@ use lib.Pow.{pow-pos, pow-add}
 use Rattle.bits.specs.Bit.{flip}
 use Rattle.cube_math.specs.Doors.{In, Fresh}
 use Rattle.paths.specs.Lists as lists
-use Rattle.two.specs.Two.{two, relays}
-use Rattle.two.specs.Links.{link-linked}
+use Rattle.two_parts.specs.Two.{two, relays}
+use Rattle.two_parts.specs.Links.{link-linked}
 use Rattle.two_math.specs.Relays.{Relay, On, Once, Link, Chain, link-within}
 use Rattle.two_math.specs.Assemble.{most, TwoFan}
 use Rattle.two_math.specs.Sort.{Ask}

@@ -12,7 +12,7 @@ use Rattle.paths.specs.Forced.{Links, At, other, links, first, onward, arrived,
 use Rattle.paths.specs.Judged.{clean-fan}
 use Rattle.paths.specs.Lists.{Lists}
 use Rattle.paths.specs.Read.{read, fan-lists}
-use Rattle.two.specs.Two.{joined, linked, two}
+use Rattle.two_parts.specs.Two.{joined, linked, two}
 
 abbrev targets : List ℕ
 targets = 4 ∷ 6 ∷ []

@@ -3,9 +3,9 @@ ghost use mathlib.Core.Path.{_≡_};
 ghost use mathlib.Core.Bool.{Bool, true, false};
 ghost use Prim.Native.Nat.{ℕ, _+_, _*_, _/_, _<_, _≤_};
 ghost use lib.ListN.{length, getD};
-ghost use Rattle.two.specs.Two.{two};
+ghost use Rattle.two_parts.specs.Two.{two};
 ghost use Rattle.two_write.specs.Rows.{Drawn};
-ghost use Rattle.two_plan.specs.Home.{Filling, Home};
+ghost use Rattle.two_plan.specs.Home.{Home};
 ghost use Rattle.two_plan.specs.Sound.{Asked};
 ghost use Rattle.mesh.specs.Kinds.{twos};
 ghost use Rattle.mesh.specs.Says.{requestAgainst, short};
@@ -16,26 +16,15 @@ use mesh::Mesh;
 use paths::FILLER;
 use two::Order;
 
-// Fills the first n places.
-fn fill(n: usize, places: &mut [u64])
-    requires { ⌜ n ≤ length (now places) ⌝ }
-    ensures { λ _. ⌜ Filling n (now (places .entry)) (now (places .exit)) n ⌝ }
+// Whether all targets stand in the source's block.
+fn all_home(order: Order, source: u64, targets: &[u64]) -> bool
+    requires { ⌜ order .0 ≤ 5 ⌝ }
+    ensures { λ r. ⌜ Home (order .0) source (now (targets .entry)) r ⌝ }
 {
-    let mut i: usize = 0;
-    while i < n {
-        places[i] = FILLER;
-        i += 1;
-    }
-}
-
-// Whether all targets stand in the source's block, where a block has `size` slots.
-fn all_home(size: u64, source: u64, targets: &[u64]) -> bool
-    requires { ⌜ 0 < size ⌝ }
-    ensures { λ r. ⌜ Home size source (now (targets .entry)) r ⌝ }
-{
+    let home = two_parts::block_of(order, source).0;
     let mut i: usize = 0;
     while i < targets.len() {
-        if targets[i] / size != source / size {
+        if two_parts::block_of(order, targets[i]).0 != home {
             return false;
         }
         i += 1;
@@ -43,18 +32,18 @@ fn all_home(size: u64, source: u64, targets: &[u64]) -> bool
     true
 }
 
-// Plans a sound request, where there is room.
-fn lay(m: u32, source: u64, targets: &[u64], w: usize, places: &mut [u64], counts: &mut [u64])
+// Plans a sound request, where there is room. Inner: `planner` calls it for a request that it has checked.
+pub fn lay(m: u32, source: u64, targets: &[u64], w: usize, places: &mut [u64], counts: &mut [u64])
     requires { ⌜ Asked m source w (now targets) (now places) (now counts) ⌝ }
     ensures { λ _. ⌜ Drawn (two m) source (now (targets .entry)) (now (places .entry)) (now (counts .entry)) (now (places .exit)) (now (counts .exit)) ⌝ }
 {
-    fill(targets.len() * w, places);
+    scan::fill(places, 0, targets.len() * w, FILLER);
     if m == 1 {
         two_ring::plan(source, targets, places, counts);
         return;
     }
     if targets.len() == m as usize + 1 {
-        if all_home(cube_rows::pow(m), source, targets) {
+        if all_home(Order(m as u64), source, targets) {
             two_round::plan(m, source, targets, w, places, counts);
             return;
         }

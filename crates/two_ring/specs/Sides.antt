@@ -14,7 +14,7 @@ use lib.Seq.{sets}
 use borrow.Author.Tests.{ltb-true, ltb-false}
 use Rattle.paths.specs.Lists.{Lists}
 use Rattle.requests.specs.Sound.{Sound}
-use Rattle.two.specs.Two.{two}
+use Rattle.two_parts.specs.Two.{two}
 use Rattle.two_math.specs.Relays.{Relay}
 use Rattle.two_math.specs.Assemble.{TwoFan}
 use Rattle.two_math.specs.Sort.{Ask}

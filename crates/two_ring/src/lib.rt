@@ -3,7 +3,7 @@ ghost use mathlib.Core.Path.{_≡_};
 ghost use Prim.Native.Nat.{_+_, _*_, _<_, _≤_};
 ghost use lib.ListN.{length};
 ghost use lib.Seq.{sets};
-ghost use Rattle.two.specs.Two.{two};
+ghost use Rattle.two_parts.specs.Two.{two};
 ghost use Rattle.two_write.specs.Rows.{Ready, Drawn};
 ghost use Rattle.two_ring.specs.Way.{relayAt, spotOf, farOf, stepOf, hopsOf, line};
 ghost use Rattle.two_ring.specs.Sides.{Side};

@@ -8,7 +8,7 @@ use Rattle.cube_math.specs.Masks.{at}
 use Rattle.cube_math.specs.Doors.{Doors}
 use Rattle.two_write.specs.Row.{hops}
 use Rattle.two_rows.specs.Rows.{Gives}
-use Rattle.two.specs.Two.{two, blockOf, slotOf}
+use Rattle.two_parts.specs.Two.{two, blockOf, slotOf}
 use Rattle.two_write.specs.Rows.{Drawing, Drawn, ready-drawing, row-room}
 use Rattle.two_round.specs.Found.{Found}
 use Rattle.two_round.specs.Trip.{Trip, Slots, Course, trip-fan, trip-course}

@@ -16,7 +16,7 @@ use Rattle.paths.specs.Mesh.{width}
 use Rattle.cube_math.specs.Doors.{Doors}
 use Rattle.cube_math.specs.Plain.{bit-full}
 use Rattle.two_write.specs.Row.{hops, hops-length}
-use Rattle.two.specs.Two.{two, blockOf, slotOf}
+use Rattle.two_parts.specs.Two.{two, blockOf, slotOf}
 use Rattle.two_math.specs.Relays.{Relay, inside, length-inside}
 use Rattle.two_math.specs.Through.{Crosses}
 use Rattle.two_math.specs.Assemble.{TwoFan}

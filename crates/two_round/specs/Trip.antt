@@ -22,7 +22,7 @@ use Rattle.cube_math.specs.Request.{Request}
 use Rattle.two_write.specs.Row.{hops}
 use Rattle.two_rows.specs.Rows as rows
 use Rattle.two_rows.specs.Rows.{Gives}
-use Rattle.two.specs.Two.{two, blockOf, slotOf}
+use Rattle.two_parts.specs.Two.{two, blockOf, slotOf}
 use Rattle.two_math.specs.Sort.{Ask}
 use Rattle.two_math.specs.Numbers.{ask-numbers}
 use Rattle.two_write.specs.Blocks.{walk-below}

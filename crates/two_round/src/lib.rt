@@ -5,13 +5,13 @@ ghost use mathlib.Core.List.{List};
 ghost use Prim.Native.Nat.{ℕ, _+_, _*_, _^_, _<_, _≤_};
 ghost use lib.ListN.{length};
 ghost use Rattle.two_write.specs.Row.{hops};
-ghost use Rattle.two.specs.Two.{two};
+ghost use Rattle.two_parts.specs.Two.{two};
 ghost use Rattle.two_write.specs.Rows.{Drawn};
 ghost use Rattle.two_round.specs.Around.{Rounded};
 ghost use Rattle.two_round.specs.Found.{Stands, Found};
 ghost use Rattle.two_round.specs.Trip.{Trip, Slots, Course};
 ghost use Rattle.two_round.specs.Paths.{Part, Written};
-use two::Order;
+use two_parts::Order;
 
 // So many hops along the path of a row.
 pub struct Spot {
@@ -27,7 +27,7 @@ fn slots_of(order: Order, targets: &[u64]) -> [u64; 16]
     let mut to = [0u64; 16];
     let mut i: usize = 0;
     while i < targets.len() {
-        to[i] = two::slot_of(order, targets[i]).0;
+        to[i] = two_parts::slot_of(order, targets[i]).0;
         i += 1;
     }
     to
@@ -130,10 +130,10 @@ pub fn plan(m: u32, source: u64, targets: &[u64], w: usize, places: &mut [u64], 
     ensures { λ _. ⌜ Drawn (two m) source (now (targets .entry)) (now (places .entry)) (now (counts .entry)) (now (places .exit)) (now (counts .exit)) ⌝ }
 {
     let order = Order(m as u64);
-    let s0 = two::block_of(order, source).0;
-    let p0 = two::slot_of(order, source).0;
+    let s0 = two_parts::block_of(order, source).0;
+    let p0 = two_parts::slot_of(order, source).0;
     let to = slots_of(order, targets);
-    let size = cube_rows::pow(m);
+    let size = bits::power(m);
     let mut grid = [0u64; 560];
     two_rows::plan_rows(size - 1, p0, 0, size - 1, to, &mut grid);
     let s = find(&grid, m as usize, to[m as usize]);

@@ -20,7 +20,7 @@ use Rattle.cube_math.specs.Doors.{In, Fresh, Walk}
 use Rattle.cube_math.specs.Paths.{flip-moves, flip-eq, same-or}
 use Rattle.cube_math.specs.Choose.{cleared}
 use Rattle.cube_math.specs.Plain.{full-below}
-use Rattle.two.specs.Digits.{bit-below}
+use Rattle.two_parts.specs.Digits.{bit-below}
 use Rattle.cube_math.specs.Single.{rank, rank-less}
 use Rattle.two_write.specs.Row.{hops, hops-length}
 use Rattle.two_math.specs.Relays.{Relay}

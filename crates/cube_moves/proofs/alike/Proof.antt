@@ -1,4 +1,4 @@
--- `moves::alike` meets its contract. The loop's invariant: of the rows passed those are picked whose target agrees with f. Assumes nothing.
+-- `cube_moves::alike` meets its contract. The loop's invariant: of the rows passed those are picked whose target agrees with f. Assumes nothing.
 use mathlib.Core.Path.{sym, ap, _∙_}
 use Prim.Native.Nat.{ℕ}
 use native.Mathlib.Omega.{arith}

@@ -1,4 +1,4 @@
--- `moves::beside` meets its contract. The loop's invariant: the doors behind which a target of the rows passed stands are taken. Assumes nothing.
+-- `cube_moves::beside` meets its contract. The loop's invariant: the doors behind which a target of the rows passed stands are taken. Assumes nothing.
 use mathlib.Core.Path.{_≡_, sym, ap, _∙_, subst}
 use Prim.Native.Nat.{ℕ}
 use native.Mathlib.Omega.{arith}

@@ -1,4 +1,4 @@
--- `moves::bring` meets its contract. The loop's invariant: of the rows passed each has come home, and the others are ready. Assumes nothing.
+-- `cube_moves::bring` meets its contract. The loop's invariant: of the rows passed each has come home, and the others are ready. Assumes nothing.
 use mathlib.Core.Path.{_≡_, refl, ap, _∙_}
 use Prim.Native.Nat.{ℕ}
 use mathlib.Core.List.{List}

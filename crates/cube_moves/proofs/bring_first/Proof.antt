@@ -1,4 +1,4 @@
--- `moves::bring_first` meets its contract. Assumes nothing.
+-- `cube_moves::bring_first` meets its contract. Assumes nothing.
 use mathlib.Core.Path.{sym, _∙_}
 use Rattle.bits.specs.Laws.{bit-on, bit-off}
 use Rattle.cube_moves.specs.Bring.{fetch-home, fetch-none, fetch-straight}

@@ -1,4 +1,4 @@
--- `moves::bring_home` meets its contract. Assumes nothing.
+-- `cube_moves::bring_home` meets its contract. Assumes nothing.
 use mathlib.Core.Path.{ap}
 use native.Mathlib.Omega.{arith}
 use lib.ListN.{length}

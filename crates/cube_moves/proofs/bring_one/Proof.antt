@@ -1,4 +1,4 @@
--- `moves::bring_one` meets its contract. Assumes nothing.
+-- `cube_moves::bring_one` meets its contract. Assumes nothing.
 use Rattle.cube_moves.specs.Bring.{turns-is}
 use borrow.Author.Needs.{needs}
 use Rattle.cube_moves.proofs.bring_one.Statement.{statement}

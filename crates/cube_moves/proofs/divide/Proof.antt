@@ -1,4 +1,4 @@
--- `moves::divide` meets its contract. Assumes nothing.
+-- `cube_moves::divide` meets its contract. Assumes nothing.
 use mathlib.Core.Path.{refl}
 use Rattle.cube_rows.specs.Grid.{rows-part}
 use Rattle.cube_moves.specs.Halves.{halved, halved-room, home-chosen, divided}
@@ -15,8 +15,8 @@ flip-requires c κs = c .parting .ensures .small
 flip-requires-2 : tie.Need-flip-requires-2
 flip-requires-2 c κs = search needs
 
-pow-requires : tie.Need-pow-requires
-pow-requires c κs = search needs
+power-requires : tie.Need-power-requires
+power-requires c κs = search needs
 
 less-requires : tie.Need-less-requires
 less-requires c κs = search needs
@@ -30,7 +30,7 @@ home-of-requires c κs = (rows-part (c .before .alike .ensures .sub) refl (c .be
 stand-in-requires : tie.Need-stand-in-requires
 stand-in-requires c κs =
     let s = c .before .before .before .before .before .before .before .before .before .before .before .before in
-    let half = halved _ _ _ _ _ (s .pre .2) _ _ _ _ _ _ (c .before .before .before .before .before .before .before .before .before .parting .ensures) (c .before .before .before .before .before .before .before .before .flip .ensures) (c .before .before .before .before .before .before .before .flip2 .ensures) (c .before .before .before .before .before .before .pow .ensures)
+    let half = halved _ _ _ _ _ (s .pre .2) _ _ _ _ _ _ (c .before .before .before .before .before .before .before .before .before .parting .ensures) (c .before .before .before .before .before .before .before .before .flip .ensures) (c .before .before .before .before .before .before .before .flip2 .ensures) (c .before .before .before .before .before .before .power .ensures)
     (c .before .before .before .before .before .less .ensures) (c .before .before .before .alike .ensures) in
     let chosen = home-chosen _ _ _ _ _ (s .pre .2) _ _ _ _ _ half _ (s .pre .3) (c .before .home-of .ensures) in
     (rows-part (c .before .before .before .alike .ensures .sub) refl (s .pre .0), halved-room _ _ _ _ _ (s .pre .2) _ _ _ _ _ half, chosen .sub)
@@ -41,7 +41,7 @@ same-length c = search needs
 returns : tie.Need-returns
 returns c =
     let s = c .before .before .before .before .before .before .before .before .before .before .before .before .before .before .before in
-    let half = halved _ _ _ _ _ (s .pre .2) _ _ _ _ _ _ (c .before .before .before .before .before .before .before .before .before .before .before .before .parting .ensures) (c .before .before .before .before .before .before .before .before .before .before .before .flip .ensures) (c .before .before .before .before .before .before .before .before .before .before .flip2 .ensures) (c .before .before .before .before .before .before .before .before .before .pow .ensures)
+    let half = halved _ _ _ _ _ (s .pre .2) _ _ _ _ _ _ (c .before .before .before .before .before .before .before .before .before .before .before .before .parting .ensures) (c .before .before .before .before .before .before .before .before .before .before .before .flip .ensures) (c .before .before .before .before .before .before .before .before .before .before .flip2 .ensures) (c .before .before .before .before .before .before .before .before .before .power .ensures)
     (c .before .before .before .before .before .before .before .before .less .ensures) (c .before .before .before .before .before .before .alike .ensures) in
     let chosen = home-chosen _ _ _ _ _ (s .pre .2) _ _ _ _ _ half _ (s .pre .3) (c .before .before .before .before .home-of .ensures) in
     divided _ _ _ _ _ _ (s .pre .2) (s .pre .4) _ _ _ _ _ half _ _ (s .pre .3) chosen (c .before .before .stand-in .ensures)
@@ -53,7 +53,7 @@ divide-spec =
     parting-requires
     flip-requires
     flip-requires-2
-    pow-requires
+    power-requires
     less-requires
     alike-requires
     home-of-requires

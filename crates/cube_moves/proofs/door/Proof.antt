@@ -1,4 +1,4 @@
--- `moves::door` meets its contract. Assumes nothing.
+-- `cube_moves::door` meets its contract. Assumes nothing.
 use Prim.Native.Nat.{ℕ}
 use mathlib.Core.Path.{_≡_}
 use native.Mathlib.Omega.{arith}

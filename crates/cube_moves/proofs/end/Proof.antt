@@ -1,4 +1,4 @@
--- `moves::end` meets its contract. Assumes nothing.
+-- `cube_moves::end` meets its contract. Assumes nothing.
 use mathlib.Core.Path.{sym, ap, _∙_}
 use native.Mathlib.Omega.{arith}
 use lib.ListN.{length}

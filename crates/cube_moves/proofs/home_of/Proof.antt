@@ -1,4 +1,4 @@
--- `moves::home_of` meets its contract. Assumes nothing.
+-- `cube_moves::home_of` meets its contract. Assumes nothing.
 use mathlib.Core.Path.{refl, sym, _∙_}
 use Rattle.bits.specs.Laws.{bit-on, bit-off, clash}
 use borrow.Author.Needs.{needs}

@@ -1,4 +1,4 @@
--- `moves::mark` meets its contract. Assumes nothing.
+-- `cube_moves::mark` meets its contract. Assumes nothing.
 use mathlib.Core.Path.{_≡_, refl}
 use Prim.Native.Nat.{ℕ}
 use mathlib.Core.Logic.{inr}

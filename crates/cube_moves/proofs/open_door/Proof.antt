@@ -1,4 +1,4 @@
--- `moves::open_door` meets its contract. Assumes nothing.
+-- `cube_moves::open_door` meets its contract. Assumes nothing.
 use Prim.Native.Nat.{ℕ}
 use mathlib.Core.Path.{sym, _∙_, subst}
 use lib.Bits.{bitAnd}

@@ -1,4 +1,4 @@
--- `moves::parting` meets its contract. Assumes nothing.
+-- `cube_moves::parting` meets its contract. Assumes nothing.
 use mathlib.Core.Path.{_≡_, sym, ap, _∙_, subst}
 use Prim.Native.Nat.{ℕ}
 use native.Mathlib.Omega.{arith}

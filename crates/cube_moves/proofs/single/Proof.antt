@@ -1,4 +1,4 @@
--- `moves::single` meets its contract. The loop's invariant: the row is the end of a path, from `here` on. Assumes nothing.
+-- `cube_moves::single` meets its contract. The loop's invariant: the row is the end of a path, from `here` on. Assumes nothing.
 use Prim.Native.Nat.{ℕ}
 use mathlib.Core.Path.{sym, ap, _∙_}
 use mathlib.Core.List.{List, [], _∷_}

@@ -1,4 +1,4 @@
--- `moves::sort` meets its contract. The loop's invariant: what `Sorting` says, of the rows passed. Assumes nothing.
+-- `cube_moves::sort` meets its contract. The loop's invariant: what `Sorting` says, of the rows passed. Assumes nothing.
 use mathlib.Core.Path.{sym, ap}
 use native.Mathlib.Omega.{arith}
 use lib.Count.{ones}

@@ -1,4 +1,4 @@
--- `moves::sort_one` meets its contract. Assumes nothing.
+-- `cube_moves::sort_one` meets its contract. Assumes nothing.
 use Rattle.cube_moves.specs.Sort.{sort-none, sort-some}
 use borrow.Author.Needs.{needs}
 use Rattle.cube_moves.proofs.sort_one.Statement.{statement}

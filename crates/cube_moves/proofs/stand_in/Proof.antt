@@ -1,4 +1,4 @@
--- `moves::stand_in` meets its contract. Assumes nothing.
+-- `cube_moves::stand_in` meets its contract. Assumes nothing.
 use mathlib.Core.Path.{_≡_, ap, subst}
 use Prim.Native.Nat.{ℕ}
 use native.Mathlib.Omega.{arith}

@@ -7,6 +7,9 @@ use borrow.Author.Needs.{needs}
 use Rattle.cube_plan.proofs.bad_doors.Statement.{statement}
 use Rattle.cube_plan.proofs.bad_doors.Tie as tie
 
+cast-power : tie.Need-cast-power
+cast-power c = search needs
+
 power-requires : tie.Need-power-requires
 power-requires c κs = search needs
 
@@ -26,4 +29,4 @@ returns-2 c =
     simp (lt-leb _ _ h)
 
 pub bad-doors-spec : {M : Type 1} → statement M
-bad-doors-spec = tie.close (tie.spec power-requires returns cast-result returns-2)
+bad-doors-spec = tie.close (tie.spec cast-power power-requires returns cast-result returns-2)

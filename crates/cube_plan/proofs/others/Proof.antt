@@ -8,6 +8,9 @@ use Rattle.cube_math.specs.Masks.{less}
 use Rattle.cube_plan.proofs.others.Statement.{statement}
 use Rattle.cube_plan.proofs.others.Tie as tie
 
+cast-power : tie.Need-cast-power
+cast-power c = search needs
+
 power-requires : tie.Need-power-requires
 power-requires c κs = search needs
 
@@ -21,4 +24,4 @@ returns : tie.Need-returns
 returns c = c .less .ensures ∙ ap (λ (p : ℕ). less (p - 1) (c .before .before .args .doors)) (c .before .power .ensures)
 
 pub others-spec : {M : Type 1} → statement M
-others-spec = tie.close (tie.spec power-requires sub-less less-requires returns)
+others-spec = tie.close (tie.spec cast-power power-requires sub-less less-requires returns)

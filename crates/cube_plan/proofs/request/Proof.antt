@@ -1,5 +1,5 @@
 -- `cube_plan::request` meets its contract: 1 first, then 2 to 7. Assumes nothing.
-use Prim.Native.Nat.{ℕ, _^_}
+use Prim.Native.Nat.{ℕ, _^_, _≤_}
 use mathlib.Core.Path.{ap, _∙_}
 use native.Mathlib.Omega.{arith}
 use Rattle.answers.specs.Order.{first, requestFaults}
@@ -12,18 +12,25 @@ use Rattle.cube_plan.proofs.request.Tie as tie
 known-requires : tie.Need-known-requires
 known-requires c κs = search needs
 
+-- so few that they fit
+few : (c : tie.After-struct-known) → c .before .before .before .before .args .size .0 ≤ 32
+few c = known-most (c .before .before .before .before .args .size .0) (c .before .before .known .ensures) (c .before .if1 .taken)
+
+cast-power : tie.Need-cast-power
+cast-power c = omega (arith, few c)
+
 power-requires : tie.Need-power-requires
-power-requires c κs = omega (arith, known-most (c .before .before .before .args .size .0) (c .before .known .ensures) (c .if1 .taken))
+power-requires c κs = omega (arith, few c)
 
 request-requires : tie.Need-request-requires
 request-requires c κs = search needs
 
 returns : tie.Need-returns
 returns c =
-    let a = c .before .before .before .before .before .args in
+    let a = c .before .before .before .before .before .before .args in
     let n = a .size .0 in
     c .request .ensures ∙ ap (λ (p : ℕ). first (requestFaults p n (a .source) (a .targets .now))) (c .before .power .ensures)
-    ∙ size-known (requestFaults (2 ^ n) n (a .source) (a .targets .now)) (c .before .before .before .known .ensures) (c .before .before .if1 .taken)
+    ∙ size-known (requestFaults (2 ^ n) n (a .source) (a .targets .now)) (c .before .before .before .before .known .ensures) (c .before .before .before .if1 .taken)
 
 returns-2 : tie.Need-returns-2
 returns-2 c =
@@ -32,4 +39,4 @@ returns-2 c =
 
 pub request-spec : {M : Type 1} → statement M
 request-spec =
-    tie.close (tie.spec known-requires power-requires request-requires returns returns-2)
+    tie.close (tie.spec known-requires cast-power power-requires request-requires returns returns-2)

@@ -1,4 +1,4 @@
--- `grid::first` meets its contract. Assumes nothing.
+-- `cube_rows::first` meets its contract. Assumes nothing.
 use native.Mathlib.Omega.{arith}
 use Rattle.cube_rows.specs.Grid.{first-is, room-few, some-relay}
 use borrow.Author.Needs.{needs}

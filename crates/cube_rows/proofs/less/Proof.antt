@@ -1,4 +1,4 @@
--- `grid::less` meets its contract. Assumes nothing.
+-- `cube_rows::less` meets its contract. Assumes nothing.
 use mathlib.Core.Path.{refl}
 use Rattle.cube_math.specs.Masks.{less}
 use Rattle.cube_rows.proofs.less.Statement.{statement}

@@ -1,4 +1,4 @@
--- `grid::push` meets its contract. Assumes nothing.
+-- `cube_rows::push` meets its contract. Assumes nothing.
 use native.Mathlib.Omega.{arith}
 use lib.ListN.{length-set}
 use Rattle.cube_rows.specs.Grid.{push-sets, room-few}

@@ -1,4 +1,4 @@
--- `grid::start` meets its contract. Assumes nothing.
+-- `cube_rows::start` meets its contract. Assumes nothing.
 use native.Mathlib.Omega.{arith}
 use lib.ListN.{length-set}
 use Rattle.cube_rows.specs.Grid.{start-sets}

@@ -1,4 +1,4 @@
--- `cube_plan::plan` meets its contract. It calls itself for the far and for the near side, each with one dimension less: the measure is how many are
+-- `cube_split::plan` meets its contract. It calls itself for the far and for the near side, each with one dimension less: the measure is how many are
 -- free. Assumes nothing.
 use mathlib.Core.Path.{refl, _∙_}
 use native.Mathlib.Omega.{arith}

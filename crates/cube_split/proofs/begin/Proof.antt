@@ -1,4 +1,4 @@
--- `cube_plan::begin` meets its contract. The loop's invariant: the first j rows hold their targets. Assumes nothing.
+-- `cube_split::begin` meets its contract. The loop's invariant: the first j rows hold their targets. Assumes nothing.
 use mathlib.Core.Path.{refl}
 use Prim.Native.Nat.{ℕ, _*_, _≤_, _-_}
 use mathlib.Core.List.{List}

@@ -1,4 +1,4 @@
--- `cube_plan::fan_through` meets its contract: each row begins with its target, the recursion is asked for all of them, and they are laid out. Assumes nothing.
+-- `cube_split::fan_through` meets its contract: each row begins with its target, the recursion is asked for all of them, and they are laid out. Assumes nothing.
 use native.Mathlib.Omega.{arith}
 use Rattle.cube_split.specs.Fan.{fan-asked, fan-count, fan-given}
 use borrow.Author.Needs.{needs}

@@ -1,12 +1,12 @@
--- `cube_plan::full` meets its contract. Assumes nothing.
+-- `cube_split::full` meets its contract. Assumes nothing.
 use native.Mathlib.Omega.{arith}
 use lib.Pow.{pow-pos}
 use borrow.Author.Needs.{needs}
 use Rattle.cube_split.proofs.full.Statement.{statement}
 use Rattle.cube_split.proofs.full.Tie as tie
 
-pow-requires : tie.Need-pow-requires
-pow-requires c κs = search needs
+power-requires : tie.Need-power-requires
+power-requires c κs = search needs
 
 sub-result : tie.Need-sub-result
 sub-result c = omega (arith, pow-pos (c .before .args .n))
@@ -15,4 +15,4 @@ returns : tie.Need-returns
 returns c = search needs
 
 pub full-spec : {M : Type 1} → statement M
-full-spec = tie.close (tie.spec pow-requires sub-result returns)
+full-spec = tie.close (tie.spec power-requires sub-result returns)

@@ -1,8 +1,9 @@
--- `cube_plan::settle` meets its contract. Assumes nothing.
+-- `cube_split::settle` meets its contract. Assumes nothing.
+use Prim.Native.Nat.{_+_, _-_}
 use mathlib.Core.Path.{refl, _∙_}
 use native.Mathlib.Omega.{arith}
-use lib.ListN.{length-set}
-use Rattle.cube_split.specs.Fan.{settled}
+use lib.ListN.{getD, length-set}
+use Rattle.cube_split.specs.Fan.{filled, settled}
 use borrow.Author.Needs.{needs}
 use Rattle.cube_split.proofs.settle.Statement.{statement}
 use Rattle.cube_split.proofs.settle.Tie as tie
@@ -31,11 +32,14 @@ add-fill c = search needs
 add-fill-2 : tie.Need-add-fill-2
 add-fill-2 c = search needs
 
-add-fill-3 : tie.Need-add-fill-3
-add-fill-3 c = search needs
+sub-fill : tie.Need-sub-fill
+sub-fill c = search needs
+
+sub-fill-2 : tie.Need-sub-fill-2
+sub-fill-2 c = search needs
 
 fill-requires : tie.Need-fill-requires
-fill-requires c κs = let p = c .before .before .before .before .before .before .before .pre in (omega (arith, p .0), omega (arith, p .1, c .before .before .before .shift .kept .0))
+fill-requires c κs = let p = c .before .before .before .before .before .before .before .pre in omega (arith, p .0, p .1, c .before .before .before .shift .kept .0)
 
 mul-places : tie.Need-mul-places
 mul-places c = search needs
@@ -48,8 +52,11 @@ same-length c = simp length-set (c .before .before .fill .kept .0 ∙ c .before 
 
 returns : tie.Need-returns
 returns c =
+    let a = c .before .before .before .before .before .before .before .before .before .before .args in
     let p = c .before .before .before .before .before .before .before .before .before .before .pre in
-    settled _ _ _ _ _ _ _ _ refl (p .0) (omega (arith, p .0, p .1, c .before .before .fill .kept .0, c .before .before .before .before .before .before .shift .kept .0)) refl (c .before .before .before .before .before .before .shift .ensures) (c .before .before .fill .ensures)
+    let n = getD (a .places .now) (a .at) 0 in
+    settled _ _ _ _ _ _ _ _ refl (p .0) (omega (arith, p .0, p .1, c .before .before .fill .kept .0, c .before .before .before .before .before .before .shift .kept .0)) refl (c .before .before .before .before .before .before .shift .ensures)
+    (filled (a .at + 1 + n) (a .w - 1 - n) (a .at + a .w) (omega (arith, p .0)) (omega (arith, p .1, c .before .before .before .before .before .before .shift .kept .0)) (c .before .before .fill .ensures))
 
 pub settle-spec : {M : Type 1} → statement M
 settle-spec =
@@ -63,7 +70,8 @@ settle-spec =
     shift-requires
     add-fill
     add-fill-2
-    add-fill-3
+    sub-fill
+    sub-fill-2
     fill-requires
     mul-places
     slice-write-places

@@ -1,4 +1,4 @@
--- `cube_plan::shift` meets its contract. The loop's invariant: q numbers are moved, and those that are not written yet are as they were. Assumes nothing.
+-- `cube_split::shift` meets its contract. The loop's invariant: q numbers are moved, and those that are not written yet are as they were. Assumes nothing.
 use mathlib.Core.Path.{_≡_, refl}
 use Prim.Native.Nat.{ℕ, _+_, _≤_, _-_}
 use mathlib.Core.List.{List}

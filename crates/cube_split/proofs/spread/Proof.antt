@@ -1,4 +1,4 @@
--- `cube_plan::spread` meets its contract. The loop's invariant: the first j rows are paths, the others are as they were. Assumes nothing.
+-- `cube_split::spread` meets its contract. The loop's invariant: the first j rows are paths, the others are as they were. Assumes nothing.
 use mathlib.Core.Path.{_≡_, refl, _∙_}
 use Prim.Native.Nat.{ℕ, _*_, _≤_, _<_, _-_}
 use mathlib.Core.List.{List}

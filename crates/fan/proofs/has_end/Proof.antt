@@ -5,7 +5,7 @@ use mathlib.Core.Path.{sym}
 use lib.ListN.{length}
 use borrow.Author.Tests.{eq-eqb, ne-eqb}
 use Rattle.scan.specs.Laws.{Passed, passed-start, passed-more, true-any, false-any}
-use Rattle.fan.specs.Buffers.{isEnd}
+use Rattle.fan.specs.Says.{isEnd}
 use borrow.Author.Needs.{needs}
 use Rattle.fan.proofs.has_end.Statement.{statement}
 use Rattle.fan.proofs.has_end.Tie as tie

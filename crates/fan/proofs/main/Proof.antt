@@ -15,7 +15,7 @@ array-share-prefix-text : tie.Need-array-share-prefix-text
 array-share-prefix-text c = search needs
 
 slice-aggregate-answer : tie.Need-slice-aggregate-answer
-slice-aggregate-answer c = part-long _ _ (c .before .before .read-line .ensures)
+slice-aggregate-answer c = part-long _ _ (c .before .before .read-line .ensures .within)
 
 slice-aggregate-answer-2 : tie.Need-slice-aggregate-answer-2
 slice-aggregate-answer-2 c = search needs
@@ -27,10 +27,10 @@ enum-known-said : tie.Need-enum-known-said
 enum-known-said c = search needs
 
 array-share-prefix-out : tie.Need-array-share-prefix-out
-array-share-prefix-out c = said-within (take (c .before .before .before .before .before .before .before .before .read-line .result) (c .before .before .before .before .before .before .before .before .read-line .last .0)) (replicate 32768 0) (c .before .before .before .before .answer .last .1 .0) _ (c .before .before .before .before .answer .kept .1 .0) (c .before .before .before .before .answer .ensures) (c .before .said .given .1)
+array-share-prefix-out c = said-within (take (c .before .before .before .before .before .before .before .before .read-line .result .bytes) (c .before .before .before .before .before .before .before .before .read-line .last .0)) (replicate 32768 0) (c .before .before .before .before .answer .last .1 .0) _ (c .before .before .before .before .answer .kept .1 .0) (c .before .before .before .before .answer .ensures) (c .before .said .given .1)
 
 slice-aggregate-write-all : tie.Need-slice-aggregate-write-all
-slice-aggregate-write-all c = part-long _ (c .before .before .before .before .before .answer .last .1 .0) (said-within (take (c .before .before .before .before .before .before .before .before .before .read-line .result) (c .before .before .before .before .before .before .before .before .before .read-line .last .0)) (replicate 32768 0) (c .before .before .before .before .before .answer .last .1 .0) _ (c .before .before .before .before .before .answer .kept .1 .0) (c .before .before .before .before .before .answer .ensures) (c .before .before .said .given .1))
+slice-aggregate-write-all c = part-long _ (c .before .before .before .before .before .answer .last .1 .0) (said-within (take (c .before .before .before .before .before .before .before .before .before .read-line .result .bytes) (c .before .before .before .before .before .before .before .before .before .read-line .last .0)) (replicate 32768 0) (c .before .before .before .before .before .answer .last .1 .0) _ (c .before .before .before .before .before .answer .kept .1 .0) (c .before .before .before .before .before .answer .ensures) (c .before .before .said .given .1))
 
 write-all-requires : tie.Need-write-all-requires
 write-all-requires c κs = search needs

@@ -1,9 +1,12 @@
--- `fan::read_line` is safe and ends: each turn fills more of the buffer. Assumes nothing.
+-- `fan::read_line` meets its contract: each turn fills more of the buffer, and it stops where a line end has come, the buffer is full or a read gave nothing.
+-- Assumes nothing.
 use native.Mathlib.Omega.{arith}
 use Prim.Native.Nat.{_-_, _≤_}
 use mathlib.Core.Path.{_≡_, refl, _∙_}
+use mathlib.Core.Logic.{inl, inr}
 use lib.ListN.{length}
-use Rattle.fan.specs.Buffers.{read-long, read-within, part-long}
+use Rattle.scan.specs.Laws.{true-false}
+use Rattle.fan.specs.Buffers.{read-long, read-within, part-long, end-within}
 use borrow.Author.Needs.{needs}
 use Rattle.fan.proofs.read_line.Statement.{statement}
 use Rattle.fan.proofs.read_line.Tie as tie
@@ -37,7 +40,7 @@ same-length c =
 returns : tie.Need-returns Inv-loop μ-loop
 returns c =
     let turn = c .before .before .before .before .before .before in
-    omega (arith, read-long (turn .loop .n) (turn .loop .buf) (c .before .before .before .read-some .last .0) (turn .loop .inv .0) (c .before .before .before .read-some .kept .0))
+    record { within = omega (arith, read-long (turn .loop .n) (turn .loop .buf) (c .before .before .before .read-some .last .0) (turn .loop .inv .0) (c .before .before .before .read-some .kept .0)); enough = λ e. absurd (true-false refl e) }
 
 add-n : tie.Need-add-n Inv-loop μ-loop
 add-n c =
@@ -65,7 +68,8 @@ same-length-2 c =
 returns-2 : tie.Need-returns-2 Inv-loop μ-loop
 returns-2 c =
     let turn = c .before .before .before .before .before .before .before .before .before in
-    read-within (turn .loop .n) (turn .loop .buf) (c .before .before .before .before .before .before .read-some .last .0) (turn .loop .inv .0) (c .before .before .before .before .before .before .read-some .kept .0) (c .before .before .before .before .before .before .read-some .ensures)
+    let came = read-within (turn .loop .n) (turn .loop .buf) (c .before .before .before .before .before .before .read-some .last .0) (turn .loop .inv .0) (c .before .before .before .before .before .before .read-some .kept .0) (c .before .before .before .before .before .before .read-some .ensures) in
+    record { within = came; enough = λ e. inl (end-within _ _ came (c .before .has-end .ensures) (c .if2 .taken)) }
 
 loop-less : tie.Need-loop-less Inv-loop μ-loop
 loop-less c =
@@ -81,7 +85,7 @@ same-length-3 : tie.Need-same-length-3 Inv-loop μ-loop
 same-length-3 c = c .before .loop .inv .1
 
 returns-3 : tie.Need-returns-3 Inv-loop μ-loop
-returns-3 c = c .before .loop .inv .0
+returns-3 c = record { within = c .before .loop .inv .0; enough = λ e. inr (omega (arith, c .loop-test .left, c .before .loop .inv, c .before .before .before .pre)) }
 
 pub read-line-spec : {M : Type 1} → statement M
 read-line-spec =

@@ -12,6 +12,9 @@ use Rattle.mesh.proofs.cube_fact.Tie as tie
 enum-told : tie.Need-enum-told
 enum-told c = search needs
 
+cast-power : tie.Need-cast-power
+cast-power c = omega (arith, known-most (c .before .before .args .n) refl (c .before .before .pre))
+
 power-requires : tie.Need-power-requires
 power-requires c κs = omega (arith, known-most (c .before .before .args .n) refl (c .before .before .pre))
 
@@ -47,6 +50,7 @@ cube-fact-spec =
     tie.close
     (tie.spec
     enum-told
+    cast-power
     power-requires
     enum-told-2
     enum-told-3

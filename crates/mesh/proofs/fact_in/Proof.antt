@@ -1,7 +1,7 @@
--- `mesh::fact_in` meets its contract: a mesh that there is is a cube or a two-level mesh. Assumes nothing.
+-- `mesh::fact_in` meets its contract: a mesh that there is is of one of the kinds. Assumes nothing.
 use mathlib.Core.Path.{_∙_}
 use Rattle.mesh.specs.Kinds.{Kind}
-use Rattle.mesh.specs.Laws.{as-cube, not-cube, known-cube, known-two}
+use Rattle.mesh.specs.Laws.{as-cube, as-two, known-cube, known-two, no-other}
 use Rattle.mesh.specs.Says.{factOf}
 use Rattle.mesh.proofs.fact_in.Statement.{statement}
 use Rattle.mesh.proofs.fact_in.Tie as tie
@@ -15,12 +15,16 @@ returns c =
     c .cube-fact .ensures ∙ as-cube (λ (K : Kind). factOf (a .which) (K .mesh (a .mesh .size))) (c .before .if1 .taken)
 
 two-fact-requires : tie.Need-two-fact-requires
-two-fact-requires c κs = known-two (c .before .before .args .mesh .kind) (c .before .before .args .mesh .size) (c .before .before .pre) (c .if1 .left)
+two-fact-requires c κs = let s = c .before .before .before .before in known-two (s .args .mesh .kind) (s .args .mesh .size) (s .pre) (c .if2 .taken)
 
 returns-2 : tie.Need-returns-2
 returns-2 c =
-    let s = c .before .before .before in
-    c .two-fact .ensures ∙ not-cube (s .args .mesh .kind) (s .args .mesh .size) (s .pre) (λ (K : Kind). factOf (s .args .which) (K .mesh (s .args .mesh .size))) (c .before .if1 .left)
+    let a = c .before .before .before .before .before .args in
+    c .two-fact .ensures ∙ as-two (λ (K : Kind). factOf (a .which) (K .mesh (a .mesh .size))) (c .before .before .before .if1 .left) (c .before .if2 .taken)
+
+-- there is no mesh of another kind
+returns-3 : tie.Need-returns-3
+returns-3 c = let s = c .before .before .before .before in absurd (no-other (s .args .mesh .kind) (s .args .mesh .size) (s .pre) (c .before .before .if1 .left) (c .if2 .left))
 
 pub fact-in-spec : {M : Type 1} → statement M
-fact-in-spec = tie.close (tie.spec cube-fact-requires returns two-fact-requires returns-2)
+fact-in-spec = tie.close (tie.spec cube-fact-requires returns two-fact-requires returns-2 returns-3)

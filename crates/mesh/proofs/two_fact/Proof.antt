@@ -2,8 +2,8 @@
 use Prim.Native.Nat.{ℕ, _+_, _≤_}
 use mathlib.Core.Path.{sym, ap, _∙_}
 use native.Mathlib.Omega.{arith}
-use Rattle.two.specs.Two.{two, longest}
-use Rattle.two.specs.Parts.{known-bounds, longest-few}
+use Rattle.two_parts.specs.Two.{two, longest}
+use Rattle.two_parts.specs.Parts.{known-bounds, longest-few}
 use Rattle.mesh.specs.Says.{factOf}
 use Rattle.mesh.specs.declared.Fact.{Fact}
 use borrow.Author.Needs.{needs}

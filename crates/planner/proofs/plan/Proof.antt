@@ -1,11 +1,37 @@
--- `planner::plan` meets its contract: each kind's planner keeps the promise over every kind. Assumes nothing.
-use Rattle.planner.specs.Kinds.{of-cube, of-two, of-other}
+-- `planner::plan` meets its contract: what is refused, or the fan that `lay` gives. Assumes nothing.
 use borrow.Author.Needs.{needs}
+use Rattle.planner.specs.Steps.{plan-refused, short-ask, plan-short, layable, plan-laid}
 use Rattle.planner.proofs.plan.Statement.{statement}
 use Rattle.planner.proofs.plan.Tie as tie
 
-plan-requires : tie.Need-plan-requires
-plan-requires c κs = search needs
+request-requires : tie.Need-request-requires
+request-requires c κs = search needs
+
+enum-known-checked : tie.Need-enum-known-checked
+enum-known-checked c = search needs
+
+returns : tie.Need-returns
+returns c =
+    let a = c .before .before .before .before .before .before .before .args in
+    plan-refused (a .mesh .kind) (a .mesh .size) (a .source) (a .targets .now) (a .places .now) (a .counts .now) (c .before .before .before .request .ensures) (c .before .checked .given .1)
+
+enum-told : tie.Need-enum-told
+enum-told c = search needs
+
+short-requires : tie.Need-short-requires
+short-requires c κs =
+    let a = c .before .before .before .before .before .before .args in
+    short-ask (a .mesh .kind) (a .mesh .size) (a .source) (a .targets .now) (a .places .now) (a .counts .now) (c .before .before .request .ensures) (c .enum-told .given .1)
+
+returns-2 : tie.Need-returns-2
+returns-2 c =
+    let a = c .before .before .before .before .before .before .before .before .args in
+    plan-short (a .mesh .kind) (a .mesh .size) (a .source) (a .targets .now) (a .places .now) (a .counts .now) (c .before .before .before .before .request .ensures) (c .before .before .enum-told .given .1) (c .before .short .ensures) (c .if1 .taken)
+
+lay-requires : tie.Need-lay-requires
+lay-requires c κs =
+    let a = c .before .before .before .before .before .before .before .before .before .before .args in
+    layable (a .mesh .kind) (a .mesh .size) (a .source) (a .targets .now) (a .places .now) (a .counts .now) (c .before .before .before .before .before .before .request .ensures) (c .before .before .before .before .enum-told .given .1) (c .before .before .before .short .ensures) (c .before .before .if1 .left)
 
 same-length : tie.Need-same-length
 same-length c = search needs
@@ -13,34 +39,23 @@ same-length c = search needs
 same-length-2 : tie.Need-same-length-2
 same-length-2 c = search needs
 
-returns : tie.Need-returns
-returns c = of-cube _ _ _ _ _ _ _ _ _ (c .before .before .before .before .before .before .before .if1 .taken) (c .before .before .before .before .plan .ensures)
-
-plan-requires-2 : tie.Need-plan-requires-2
-plan-requires-2 c κs = search needs
-
-same-length-3 : tie.Need-same-length-3
-same-length-3 c = search needs
-
-same-length-4 : tie.Need-same-length-4
-same-length-4 c = search needs
-
-returns-2 : tie.Need-returns-2
-returns-2 c = of-two _ _ _ _ _ _ _ _ _ (c .before .before .before .before .before .before .before .before .before .if1 .left) (c .before .before .before .before .before .before .before .if2 .taken) (c .before .before .before .before .plan2 .ensures)
-
 returns-3 : tie.Need-returns-3
-returns-3 c = of-other _ _ _ _ _ _ (c .before .before .if1 .left) (c .if2 .left)
+returns-3 c =
+    let a = c .before .before .before .before .before .before .before .before .before .before .before .before .before .before .before .args in
+    plan-laid (a .mesh .kind) (a .mesh .size) (a .source) (a .targets .now) (a .places .now) (a .counts .now) (c .before .before .before .before .before .before .before .before .before .before .before .request .ensures) (c .before .before .before .before .before .before .before .before .before .enum-told .given .1) (c .before .before .before .before .before .before .before .before .short .ensures) (c .before .before .before .before .before .before .before .if1 .left)
+    (c .before .before .before .before .lay .ensures)
 
 pub plan-spec : {M : Type 1} → statement M
 plan-spec =
     tie.close
     (tie.spec
-    plan-requires
+    request-requires
+    enum-known-checked
+    returns
+    enum-told
+    short-requires
+    returns-2
+    lay-requires
     same-length
     same-length-2
-    returns
-    plan-requires-2
-    same-length-3
-    same-length-4
-    returns-2
     returns-3)

@@ -13,7 +13,7 @@ use Rattle.sheet_take.proofs.take_path.Statement.{statement}
 use Rattle.sheet_take.proofs.take_path.Tie as tie
 use Rattle.sheet_take.proofs.take_path.Reads as reads
 use Rattle.sheet_take.proofs.take_path.Lts as lts
-use Rattle.sheet_take.proofs.fill.Reads as fill-reads
+use Rattle.scan.proofs.fill.Reads as fill-reads
 use Rattle.sheet_take.proofs.take_relays.Reads as take-relays-reads
 
 mul-places : tie.Need-mul-places

@@ -1,7 +1,8 @@
 -- `sheet_take::take_relays` meets its contract: the invariant is that i relays are taken. Assumes nothing.
 use Prim.Native.Nat.{_-_}
 use Rattle.sheet.specs.Format.{relaysAt}
-use Rattle.sheet_take.specs.Running.{Running, running-starts, running-more, running-ends, relays-run}
+use Rattle.scan.specs.Runs.{Running, running-starts, running-more, running-ends}
+use Rattle.sheet_take.specs.Running.{relays-run}
 use borrow.Author.Needs.{needs}
 use Rattle.sheet_take.proofs.take_relays.Statement.{statement}
 use Rattle.sheet_take.proofs.take_relays.Tie as tie

@@ -6,16 +6,16 @@ use borrow.Author.Needs.{needs}
 use Rattle.two_choose.proofs.add_if.Statement.{statement}
 use Rattle.two_choose.proofs.add_if.Tie as tie
 
-pow-requires : tie.Need-pow-requires
-pow-requires c κs = search needs
+power-requires : tie.Need-power-requires
+power-requires c κs = search needs
 
 returns : tie.Need-returns
 unfolding added
-returns c = ap (bitOr (c .before .before .args .set)) (c .pow .ensures) ∙ sym (ap (added (c .before .before .args .set) (c .before .before .args .j)) (c .before .if1 .taken))
+returns c = ap (bitOr (c .before .before .args .set)) (c .power .ensures) ∙ sym (ap (added (c .before .before .args .set) (c .before .before .args .j)) (c .before .if1 .taken))
 
 returns-2 : tie.Need-returns-2
 unfolding added
 returns-2 c = sym (ap (added (c .before .args .set) (c .before .args .j)) (c .if1 .left))
 
 pub add-if-spec : {M : Type 1} → statement M
-add-if-spec = tie.close (tie.spec pow-requires returns returns-2)
+add-if-spec = tie.close (tie.spec power-requires returns returns-2)

@@ -1,4 +1,4 @@
--- `two_sort::behind` meets its contract. Assumes nothing.
+-- `two_choose::behind` meets its contract. Assumes nothing.
 use mathlib.Core.Path.{sym, subst}
 use mathlib.Core.Bool.{Bool}
 use Rattle.two_math.specs.Sort.{Behind}

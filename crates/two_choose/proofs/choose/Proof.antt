@@ -1,4 +1,4 @@
--- `two_sort::choose` meets its contract: each call is asked what the calls before it give. Assumes nothing.
+-- `two_choose::choose` meets its contract: each call is asked what the calls before it give. Assumes nothing.
 use Prim.Native.Nat.{ℕ, _-_, _^_}
 use mathlib.Core.Path.{_∙_, ap}
 use native.Mathlib.Nat.{one-mul}
@@ -46,11 +46,11 @@ firsts-requires c κs = ajar-few (c .before .before .before .before .before .bef
 values-requires-3 : tie.Need-values-requires-3
 values-requires-3 c κs = (reps-few (c .before .before .before .before .before .before .before .before .before .before .before .pre) (c .before .before .before .before .before .before .before .before .before .before .equals .ensures) (c .before .before .before .before .before .before .before .before .before .values .ensures) (c .before .before .before .before .before .before .before .before .gated-of .ensures) (c .before .before .before .before .before .before .before .gates-of .ensures) (c .before .before .before .before .before .before .gate-blocks .ensures) (c .before .before .before .before .before .equals2 .ensures) (c .before .before .before .before .common .ensures) (c .before .before .before .values2 .ensures) (c .before .before .hidden .ensures) (c .before .less .ensures) (c .firsts .ensures), crowd-small)
 
-pow-requires : tie.Need-pow-requires
-pow-requires c κs = omega (arith, asks-few (c .before .before .before .before .before .before .before .before .before .before .before .before .pre))
+power-requires : tie.Need-power-requires
+power-requires c κs = omega (arith, asks-few (c .before .before .before .before .before .before .before .before .before .before .before .before .pre))
 
 sub-less : tie.Need-sub-less
-sub-less c = omega (arith, c .pow .ensures, pow-pos (c .before .before .before .before .before .before .before .before .before .before .before .before .before .args .k))
+sub-less c = omega (arith, c .power .ensures, pow-pos (c .before .before .before .before .before .before .before .before .before .before .before .before .before .args .k))
 
 less-requires-2 : tie.Need-less-requires-2
 less-requires-2 c κs = search needs
@@ -67,12 +67,12 @@ shl-shut-doors c = omega (arith, c .before .before .before .before .before .befo
 shut-doors-requires : tie.Need-shut-doors-requires
 shut-doors-requires c κs =
     let s = c .before .before .before .before .before .before .before .before .before .before .before .before .before .before .before .before in
-    door-ask (s .pre) (c .before .before .before .before .before .before .before .before .before .before .before .before .before .before .before .equals .ensures) (c .before .before .before .before .before .before .before .before .before .before .before .before .before .before .values .ensures) (c .before .before .before .before .before .before .before .before .before .before .before .before .before .gated-of .ensures) (c .before .before .before .before .before .before .before .before .before .before .before .before .gates-of .ensures) (c .before .before .before .before .before .before .before .before .before .before .before .gate-blocks .ensures) (c .before .before .before .before .before .before .before .before .before .before .equals2 .ensures) (c .before .before .before .before .before .before .before .before .before .common .ensures) (c .before .before .before .before .before .before .before .before .values2 .ensures) (c .before .before .before .before .before .before .before .hidden .ensures) (c .before .before .before .before .before .before .less .ensures) (c .before .before .before .before .before .firsts .ensures) (c .before .before .before .before .values3 .ensures) (c .ends-of .ensures) (c .before .less3 .ensures ∙ ap (λ (y : ℕ). less y (c .before .before .before .before .before .before .before .before .before .common .result)) (c .before .before .less2 .ensures ∙ ap (λ (y : ℕ). less (y - 1) (c .before .before .before .before .before .before .before .before .before .before .before .before .before .before .before .equals .result)) (c .before .before .before .pow .ensures))) _ (shl-exact 1 (s .args .m) 32 (omega arith) (omega (arith, s .pre .high)) ∙ one-mul (2 ^ s .args .m))
+    door-ask (s .pre) (c .before .before .before .before .before .before .before .before .before .before .before .before .before .before .before .equals .ensures) (c .before .before .before .before .before .before .before .before .before .before .before .before .before .before .values .ensures) (c .before .before .before .before .before .before .before .before .before .before .before .before .before .gated-of .ensures) (c .before .before .before .before .before .before .before .before .before .before .before .before .gates-of .ensures) (c .before .before .before .before .before .before .before .before .before .before .before .gate-blocks .ensures) (c .before .before .before .before .before .before .before .before .before .before .equals2 .ensures) (c .before .before .before .before .before .before .before .before .before .common .ensures) (c .before .before .before .before .before .before .before .before .values2 .ensures) (c .before .before .before .before .before .before .before .hidden .ensures) (c .before .before .before .before .before .before .less .ensures) (c .before .before .before .before .before .firsts .ensures) (c .before .before .before .before .values3 .ensures) (c .ends-of .ensures) (c .before .less3 .ensures ∙ ap (λ (y : ℕ). less y (c .before .before .before .before .before .before .before .before .before .common .result)) (c .before .before .less2 .ensures ∙ ap (λ (y : ℕ). less (y - 1) (c .before .before .before .before .before .before .before .before .before .before .before .before .before .before .before .equals .result)) (c .before .before .before .power .ensures))) _ (shl-exact 1 (s .args .m) 32 (omega arith) (omega (arith, s .pre .high)) ∙ one-mul (2 ^ s .args .m))
 
 returns : tie.Need-returns
 returns c =
     let s = c .before .before .before .before .before .before .before .before .before .before .before .before .before .before .before .before .before in
-    chose (s .pre) (c .before .before .before .before .before .before .before .before .before .before .before .before .before .before .before .before .equals .ensures) (c .before .before .before .before .before .before .before .before .before .before .before .before .before .before .before .values .ensures) (c .before .before .before .before .before .before .before .before .before .before .before .before .before .before .gated-of .ensures) (c .before .before .before .before .before .before .before .before .before .before .before .before .before .gates-of .ensures) (c .before .before .before .before .before .before .before .before .before .before .before .before .gate-blocks .ensures) (c .before .before .before .before .before .before .before .before .before .before .before .equals2 .ensures) (c .before .before .before .before .before .before .before .before .before .before .common .ensures) (c .before .before .before .before .before .before .before .before .before .values2 .ensures) (c .before .before .before .before .before .before .before .before .hidden .ensures) (c .before .before .before .before .before .before .before .less .ensures) (c .before .before .before .before .before .before .firsts .ensures) (c .before .before .before .before .before .values3 .ensures) (c .before .ends-of .ensures) (c .before .before .less3 .ensures ∙ ap (λ (y : ℕ). less y (c .before .before .before .before .before .before .before .before .before .before .common .result)) (c .before .before .before .less2 .ensures ∙ ap (λ (y : ℕ). less (y - 1) (c .before .before .before .before .before .before .before .before .before .before .before .before .before .before .before .before .equals .result)) (c .before .before .before .before .pow .ensures))) _ (shl-exact 1 (s .args .m) 32 (omega arith) (omega (arith, s .pre .high)) ∙ one-mul (2 ^ s .args .m)) (c .shut-doors .ensures)
+    chose (s .pre) (c .before .before .before .before .before .before .before .before .before .before .before .before .before .before .before .before .equals .ensures) (c .before .before .before .before .before .before .before .before .before .before .before .before .before .before .before .values .ensures) (c .before .before .before .before .before .before .before .before .before .before .before .before .before .before .gated-of .ensures) (c .before .before .before .before .before .before .before .before .before .before .before .before .before .gates-of .ensures) (c .before .before .before .before .before .before .before .before .before .before .before .before .gate-blocks .ensures) (c .before .before .before .before .before .before .before .before .before .before .before .equals2 .ensures) (c .before .before .before .before .before .before .before .before .before .before .common .ensures) (c .before .before .before .before .before .before .before .before .before .values2 .ensures) (c .before .before .before .before .before .before .before .before .hidden .ensures) (c .before .before .before .before .before .before .before .less .ensures) (c .before .before .before .before .before .before .firsts .ensures) (c .before .before .before .before .before .values3 .ensures) (c .before .ends-of .ensures) (c .before .before .less3 .ensures ∙ ap (λ (y : ℕ). less y (c .before .before .before .before .before .before .before .before .before .before .common .result)) (c .before .before .before .less2 .ensures ∙ ap (λ (y : ℕ). less (y - 1) (c .before .before .before .before .before .before .before .before .before .before .before .before .before .before .before .before .equals .result)) (c .before .before .before .before .power .ensures))) _ (shl-exact 1 (s .args .m) 32 (omega arith) (omega (arith, s .pre .high)) ∙ one-mul (2 ^ s .args .m)) (c .shut-doors .ensures)
 
 pub choose-spec : {M : Type 1} → statement M
 choose-spec =
@@ -90,7 +90,7 @@ choose-spec =
     less-requires
     firsts-requires
     values-requires-3
-    pow-requires
+    power-requires
     sub-less
     less-requires-2
     less-requires-3

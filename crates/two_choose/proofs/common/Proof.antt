@@ -1,4 +1,4 @@
--- `two_sort::common` meets its contract. Assumes nothing.
+-- `two_choose::common` meets its contract. Assumes nothing.
 use mathlib.Core.Path.{_∙_, ap}
 use Rattle.cube_math.specs.Masks.{less}
 use borrow.Author.Needs.{needs}

@@ -1,4 +1,4 @@
--- `two_sort::end_of` meets its contract. Assumes nothing.
+-- `two_choose::end_of` meets its contract. Assumes nothing.
 use mathlib.Core.Path.{ap, sym}
 use Rattle.two_choose.specs.Doors.{endOf}
 use Rattle.two_choose.proofs.end_of.Statement.{statement}

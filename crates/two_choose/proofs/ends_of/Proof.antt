@@ -1,4 +1,4 @@
--- `two_sort::ends_of` meets its contract. Assumes nothing.
+-- `two_choose::ends_of` meets its contract. Assumes nothing.
 use Prim.Native.Nat.{ℕ, _≤_, _-_}
 use mathlib.Core.Path.{_≡_, refl, _∙_, ap, subst}
 use mathlib.Core.List.{List}

@@ -1,4 +1,4 @@
--- `two_sort::firsts` meets its contract. Assumes nothing.
+-- `two_choose::firsts` meets its contract. Assumes nothing.
 use mathlib.Core.Path.{_≡_, sym, subst, _∙_}
 use Prim.Native.Nat.{ℕ}
 use lib.Count.{ones}

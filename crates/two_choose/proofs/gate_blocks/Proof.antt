@@ -1,4 +1,4 @@
--- `two_sort::gate_blocks` meets its contract. Assumes nothing.
+-- `two_choose::gate_blocks` meets its contract. Assumes nothing.
 use Prim.Native.Nat.{ℕ, _≤_, _-_}
 use mathlib.Core.Path.{_≡_, refl, subst}
 use native.Mathlib.Omega.{arith}

@@ -1,4 +1,4 @@
--- `two_sort::gated_of` meets its contract. Assumes nothing.
+-- `two_choose::gated_of` meets its contract. Assumes nothing.
 use Prim.Native.Nat.{ℕ, _≤_, _-_, _+_}
 use mathlib.Core.Path.{_≡_, sym, subst}
 use native.Mathlib.Omega.{arith}

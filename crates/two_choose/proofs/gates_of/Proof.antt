@@ -1,4 +1,4 @@
--- `two_sort::gates_of` meets its contract. Assumes nothing.
+-- `two_choose::gates_of` meets its contract. Assumes nothing.
 use Prim.Native.Nat.{ℕ, _<_}
 use mathlib.Core.Path.{_≡_, refl, subst}
 use native.Mathlib.Omega.{arith}
@@ -33,8 +33,8 @@ mul-gates c = search needs
 array-write-gates : tie.Need-array-write-gates Inv-loop μ-loop
 array-write-gates c = gating-small (c .before .before .before .before .pre) _ (c .before .before .before .loop .inv) (c .before .lowest .ensures .set)
 
-pow-requires : tie.Need-pow-requires Inv-loop μ-loop
-pow-requires c κs = search needs
+power-requires : tie.Need-power-requires Inv-loop μ-loop
+power-requires c κs = search needs
 
 flip-requires : tie.Need-flip-requires Inv-loop μ-loop
 flip-requires c κs = search needs
@@ -43,7 +43,7 @@ loop-less : tie.Need-loop-less Inv-loop μ-loop
 loop-less c = fewer _ _ _ (c .before .before .before .lowest .ensures .set) (c .flip .ensures)
 
 loop-again : tie.Need-loop-again Inv-loop μ-loop
-loop-again c = gating-more (c .before .before .before .before .before .before .pre) _ _ _ _ (c .before .before .before .before .before .loop .inv) (c .before .before .before .lowest .ensures .set) (c .before .before .gate-for .ensures) (c .before .pow .ensures) (c .flip .ensures)
+loop-again c = gating-more (c .before .before .before .before .before .before .pre) _ _ _ _ (c .before .before .before .before .before .loop .inv) (c .before .before .before .lowest .ensures .set) (c .before .before .gate-for .ensures) (c .before .power .ensures) (c .flip .ensures)
 
 returns : tie.Need-returns Inv-loop μ-loop
 returns c =
@@ -62,7 +62,7 @@ gates-of-spec =
     cast-gates
     mul-gates
     array-write-gates
-    pow-requires
+    power-requires
     flip-requires
     loop-less
     loop-again

@@ -1,4 +1,4 @@
--- `two_sort::hidden` meets its contract. Assumes nothing.
+-- `two_choose::hidden` meets its contract. Assumes nothing.
 use Prim.Native.Nat.{ℕ, _≤_, _-_, _+_}
 use mathlib.Core.Path.{_≡_, sym, subst}
 use native.Mathlib.Omega.{arith}

@@ -1,4 +1,4 @@
--- `two_sort::is_gated` meets its contract. Assumes nothing.
+-- `two_choose::is_gated` meets its contract. Assumes nothing.
 use Rattle.cube_math.specs.Masks.{at}
 use Rattle.two_choose.specs.Choice.{gated-home, gated-shared, gated-behind}
 use borrow.Author.Needs.{needs}

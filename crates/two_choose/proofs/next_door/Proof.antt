@@ -1,4 +1,4 @@
--- `two_sort::next_door` meets its contract. Assumes nothing.
+-- `two_choose::next_door` meets its contract. Assumes nothing.
 use mathlib.Core.Path.{_∙_, sym, refl}
 use mathlib.Core.Logic.{inl, inr}
 use Rattle.bits.specs.Laws.{bit-on, bit-off}

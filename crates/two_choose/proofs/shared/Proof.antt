@@ -1,4 +1,4 @@
--- `two_sort::shared` meets its contract. Assumes nothing.
+-- `two_choose::shared` meets its contract. Assumes nothing.
 use mathlib.Core.Path.{_∙_, sym}
 use Rattle.two_gate.specs.Says.{tells-no, tells-yes}
 use Rattle.two_choose.specs.Masks.{shared-no, shared-yes}

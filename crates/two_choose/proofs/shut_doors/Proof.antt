@@ -1,4 +1,4 @@
--- `two_sort::shut_doors` meets its contract. Assumes nothing.
+-- `two_choose::shut_doors` meets its contract. Assumes nothing.
 use Prim.Native.Nat.{ℕ, _≤_, _-_, _^_}
 use mathlib.Core.Path.{_≡_, sym, subst, ap}
 use native.Mathlib.Omega.{arith}
@@ -15,16 +15,16 @@ Inv-loop doors p0 keep n shut₀ i₀ shut i = (i ≤ n) × Opening doors p0 kee
 abbrev μ-loop : tie.MeasureT-loop
 μ-loop doors p0 keep n shut₀ i₀ shut i = n - i
 
-pow-requires : tie.Need-pow-requires Inv-loop μ-loop
-pow-requires c κs = search needs
+power-requires : tie.Need-power-requires Inv-loop μ-loop
+power-requires c κs = search needs
 
 sub-shut : tie.Need-sub-shut Inv-loop μ-loop
-sub-shut c = omega (arith, c .pow .ensures, pow-pos (c .before .args .doors))
+sub-shut c = omega (arith, c .power .ensures, pow-pos (c .before .args .doors))
 
 loop-holds : tie.Need-loop-holds Inv-loop μ-loop
 loop-holds c =
     let a = c .before .args in
-    (omega arith, subst (λ (y : ℕ). Opening (a .doors) (a .p0) (a .keep) 0 (y - 1)) (sym (c .pow .ensures)) (opening-none (a .doors) (a .p0) (a .keep) (c .before .pre .kept)))
+    (omega arith, subst (λ (y : ℕ). Opening (a .doors) (a .p0) (a .keep) 0 (y - 1)) (sym (c .power .ensures)) (opening-none (a .doors) (a .p0) (a .keep) (c .before .pre .kept)))
 
 next-door-requires : tie.Need-next-door-requires Inv-loop μ-loop
 next-door-requires c κs = (omega (arith, c .before .before .before .pre), door-left (c .before .before .before .pre) (c .before .loop .inv .1) (c .loop-test .taken))
@@ -58,7 +58,7 @@ shut-doors-spec =
     (tie.spec
     Inv-loop
     μ-loop
-    pow-requires
+    power-requires
     sub-shut
     loop-holds
     next-door-requires

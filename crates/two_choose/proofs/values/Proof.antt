@@ -1,4 +1,4 @@
--- `two_sort::values` meets its contract. Assumes nothing.
+-- `two_choose::values` meets its contract. Assumes nothing.
 use mathlib.Core.Path.{_≡_, refl, subst}
 use Prim.Native.Nat.{ℕ}
 use lib.Count.{ones}
@@ -22,17 +22,17 @@ loop-holds c = using-none _ _
 lowest-requires : tie.Need-lowest-requires Inv-loop μ-loop
 lowest-requires c κs = search needs
 
-cast-pow : tie.Need-cast-pow Inv-loop μ-loop
-cast-pow c = search needs
+cast-power : tie.Need-cast-power Inv-loop μ-loop
+cast-power c = search needs
 
-mul-pow : tie.Need-mul-pow Inv-loop μ-loop
-mul-pow c = search needs
+mul-power : tie.Need-mul-power Inv-loop μ-loop
+mul-power c = search needs
 
-array-read-pow : tie.Need-array-read-pow Inv-loop μ-loop
-array-read-pow c = c .before .before .before .pre .0 _ (c .before .before .loop .inv .ahead _ (c .lowest .ensures .set))
+array-read-power : tie.Need-array-read-power Inv-loop μ-loop
+array-read-power c = c .before .before .before .pre .0 _ (c .before .before .loop .inv .ahead _ (c .lowest .ensures .set))
 
-pow-requires : tie.Need-pow-requires Inv-loop μ-loop
-pow-requires c κs = c .before .before .before .pre .1 _
+power-requires : tie.Need-power-requires Inv-loop μ-loop
+power-requires c κs = c .before .before .before .pre .1 _
 
 flip-requires : tie.Need-flip-requires Inv-loop μ-loop
 flip-requires c κs = search needs
@@ -41,7 +41,7 @@ loop-less : tie.Need-loop-less Inv-loop μ-loop
 loop-less c = fewer _ _ _ (c .before .before .lowest .ensures .set) (c .flip .ensures)
 
 loop-again : tie.Need-loop-again Inv-loop μ-loop
-loop-again c = using-or _ _ _ _ (c .before .before .before .before .loop .inv) (c .before .before .lowest .ensures .set) refl (c .before .pow .ensures) (c .flip .ensures)
+loop-again c = using-or _ _ _ _ (c .before .before .before .before .loop .inv) (c .before .before .lowest .ensures .set) refl (c .before .power .ensures) (c .flip .ensures)
 
 returns : tie.Need-returns Inv-loop μ-loop
 returns c = using-done (subst (λ (y : ℕ). Using (λ j a. at (c .before .before .args .t1) j ≡ a) (c .before .before .args .set) y (c .before .loop .r)) (c .loop-test .left) (c .before .loop .inv))
@@ -54,10 +54,10 @@ values-spec =
     μ-loop
     loop-holds
     lowest-requires
-    cast-pow
-    mul-pow
-    array-read-pow
-    pow-requires
+    cast-power
+    mul-power
+    array-read-power
+    power-requires
     flip-requires
     loop-less
     loop-again

@@ -6,10 +6,11 @@ use borrow.Author.Needs.{needs}
 use Rattle.answers.specs.Told.{tell}
 use Rattle.answers.specs.Pairs.{told-refused, told-fine}
 use Rattle.answers.specs.declared.Refusal.{Refusal}
-use Rattle.two.specs.Two.{relays, two}
-use Rattle.two.specs.Moves.{seen-below}
-use Rattle.two.specs.Parts.{known-bounds}
-use Rattle.two.specs.Needs.{Fine, fine}
+use Rattle.two_parts.specs.Two.{relays, two}
+use Rattle.two_parts.specs.Moves.{seen-below}
+use Rattle.two_parts.specs.Parts.{known-bounds}
+use Rattle.two_parts.specs.Needs.{Fine}
+use Rattle.two.specs.Needs.{fine}
 use Rattle.paths.specs.Ways as ways
 use Rattle.two_distance.specs.Tables.{entry}
 use Rattle.two_distance.specs.Moved.{distance-entry, distance-near, distance-far, distance-unknown}

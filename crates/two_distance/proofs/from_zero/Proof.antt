@@ -3,7 +3,7 @@ use Prim.Native.Nat.{ℕ, _<_}
 use mathlib.Core.Path.{_≡_, _∙_, sym, ap, subst}
 use borrow.Author.Needs.{needs}
 use native.Mathlib.Omega.{arith}
-use Rattle.two.specs.Two.{relays}
+use Rattle.two_parts.specs.Two.{relays}
 use Rattle.two_distance.specs.Tables.{table1, table2, table3, entry}
 use Rattle.two_distance.proofs.from_zero.Statement.{statement}
 use Rattle.two_distance.proofs.from_zero.Tie as tie

@@ -1,4 +1,4 @@
--- `two_draw::block_bits` meets its contract. Assumes nothing.
+-- `two_general::block_bits` meets its contract. Assumes nothing.
 use Prim.Native.Nat.{ℕ, _-_, _^_, _≤_}
 use mathlib.Core.Path.{_≡_, ap, _∙_}
 use native.Mathlib.Omega.{arith}

@@ -1,36 +1,37 @@
--- `two_draw::blocks_of` meets its contract. Assumes nothing.
+-- `two_general::blocks_of` meets its contract. Assumes nothing.
 use Prim.Native.Nat.{ℕ, _-_, _/_, _%_, _≤_, _<_}
 use mathlib.Core.Path.{_≡_, refl, sym, subst, _∙_, ap}
 use mathlib.Core.List.{List}
 use native.Mathlib.Omega.{arith}
 use lib.ListN.{length, getD}
 use Rattle.cube_math.specs.Masks.{at}
+use Rattle.two_parts.specs.Two.{blockOf}
 use Rattle.two_general.specs.Filled.{Filled, allZero, filled-none, filled-more, filled-all}
 use borrow.Author.Needs.{needs}
 use Rattle.two_general.proofs.blocks_of.Statement.{statement}
 use Rattle.two_general.proofs.blocks_of.Tie as tie
 
 abbrev Inv-loop : tie.InvT-loop
-Inv-loop size targets r₀ i₀ r i = (i ≤ length targets) × Filled 8 i (λ j v. v ≡ at targets j / size) r
+Inv-loop order targets r₀ i₀ r i = (i ≤ length targets) × Filled 8 i (λ j v. v ≡ blockOf (order .0) (at targets j)) r
 
 abbrev μ-loop : tie.MeasureT-loop
-μ-loop size targets r₀ i₀ r i = length targets - i
+μ-loop order targets r₀ i₀ r i = length targets - i
 
 loop-holds : tie.Need-loop-holds Inv-loop μ-loop
 unfolding allZero
 loop-holds c = (omega arith, filled-none 8 _ _ refl refl)
 
+mul-block-of : tie.Need-mul-block-of Inv-loop μ-loop
+mul-block-of c = search needs
+
+shared-slice-read-block-of : tie.Need-shared-slice-read-block-of Inv-loop μ-loop
+shared-slice-read-block-of c = search needs
+
+block-of-requires : tie.Need-block-of-requires Inv-loop μ-loop
+block-of-requires c κs = search needs
+
 mul-r : tie.Need-mul-r Inv-loop μ-loop
 mul-r c = search needs
-
-shared-slice-read-r : tie.Need-shared-slice-read-r Inv-loop μ-loop
-shared-slice-read-r c = search needs
-
-div-r : tie.Need-div-r Inv-loop μ-loop
-div-r c = search needs
-
-mul-r-2 : tie.Need-mul-r-2 Inv-loop μ-loop
-mul-r-2 c = search needs
 
 array-write-r : tie.Need-array-write-r Inv-loop μ-loop
 array-write-r c = search needs
@@ -42,7 +43,7 @@ loop-less : tie.Need-loop-less Inv-loop μ-loop
 loop-less c = search needs
 
 loop-again : tie.Need-loop-again Inv-loop μ-loop
-loop-again c = (omega arith, filled-more _ (c .before .before .loop .inv .1) (omega (arith, c .before .before .before .pre .1)) refl)
+loop-again c = (omega arith, filled-more _ (c .before .before .before .loop .inv .1) (omega (arith, c .before .before .before .before .before .pre .1)) (c .block-of .ensures))
 
 returns : tie.Need-returns Inv-loop μ-loop
 returns c = filled-all (omega arith) (c .before .loop .inv .1)
@@ -54,10 +55,10 @@ blocks-of-spec =
     Inv-loop
     μ-loop
     loop-holds
+    mul-block-of
+    shared-slice-read-block-of
+    block-of-requires
     mul-r
-    shared-slice-read-r
-    div-r
-    mul-r-2
     array-write-r
     add-i
     loop-less

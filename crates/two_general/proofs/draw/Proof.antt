@@ -1,4 +1,4 @@
--- `two_draw::draw` meets its contract: each call is asked what the calls before it give. Assumes nothing.
+-- `two_general::draw` meets its contract: each call is asked what the calls before it give. Assumes nothing.
 use mathlib.Core.Path.{_≡_}
 use native.Mathlib.Omega.{arith}
 use Rattle.two_general.specs.Draft.{over-ask}

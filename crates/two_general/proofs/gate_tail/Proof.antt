@@ -1,4 +1,4 @@
--- `two_draw::gate_tail` meets its contract. Assumes nothing.
+-- `two_general::gate_tail` meets its contract. Assumes nothing.
 use mathlib.Core.Path.{refl}
 use mathlib.Core.Logic.{inl, inr}
 use borrow.Author.Needs.{needs}

@@ -1,4 +1,4 @@
--- `two_draw::leave_of` meets its contract: each return knows the kind of its target. Assumes nothing.
+-- `two_general::leave_of` meets its contract: each return knows the kind of its target. Assumes nothing.
 use mathlib.Core.Path.{_∙_, sym, refl}
 use native.Mathlib.Omega.{arith}
 use Rattle.bits.specs.Laws.{bit-on, bit-off}

@@ -1,4 +1,4 @@
--- `two_draw::leg_of` meets its contract: each return is the leg of its target's kind. Assumes nothing.
+-- `two_general::leg_of` meets its contract: each return is the leg of its target's kind. Assumes nothing.
 use mathlib.Core.Path.{_∙_, sym, refl}
 use native.Mathlib.Omega.{arith}
 use Rattle.bits.specs.Laws.{bit-on, bit-off}

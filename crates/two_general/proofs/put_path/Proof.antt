@@ -1,4 +1,4 @@
--- `two_draw::put_path` meets its contract: its leg is written. Assumes nothing.
+-- `two_general::put_path` meets its contract: its leg is written. Assumes nothing.
 use Prim.Native.Nat.{ℕ, _<_}
 use mathlib.Core.Path.{_≡_, refl}
 use native.Mathlib.Omega.{arith}

@@ -1,4 +1,4 @@
--- `two_draw::row_len` meets its contract. Assumes nothing.
+-- `two_general::row_len` meets its contract. Assumes nothing.
 use native.Mathlib.Omega.{arith}
 use Rattle.two_write.specs.Row.{hops-length}
 use borrow.Author.Needs.{needs}

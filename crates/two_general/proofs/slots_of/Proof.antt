@@ -1,39 +1,37 @@
--- `two_draw::slots_of` meets its contract. Assumes nothing.
+-- `two_general::slots_of` meets its contract. Assumes nothing.
 use Prim.Native.Nat.{ℕ, _-_, _/_, _%_, _≤_, _<_}
 use mathlib.Core.Path.{_≡_, refl, sym, subst, _∙_, ap}
 use mathlib.Core.List.{List}
 use native.Mathlib.Omega.{arith}
 use lib.ListN.{length, getD}
 use Rattle.cube_math.specs.Masks.{at}
-use Rattle.two_general.specs.Filled.{Filled, allZero, filled-none, filled-more, filled-all, small-rest}
+use Rattle.two_parts.specs.Two.{slotOf}
+use Rattle.two_general.specs.Filled.{Filled, allZero, filled-none, filled-more, filled-all}
 use borrow.Author.Needs.{needs}
 use Rattle.two_general.proofs.slots_of.Statement.{statement}
 use Rattle.two_general.proofs.slots_of.Tie as tie
 
 abbrev Inv-loop : tie.InvT-loop
-Inv-loop size targets r₀ i₀ r i = (i ≤ length targets) × Filled 8 i (λ j v. v ≡ at targets j % size) r
+Inv-loop order targets r₀ i₀ r i = (i ≤ length targets) × Filled 8 i (λ j v. v ≡ slotOf (order .0) (at targets j)) r
 
 abbrev μ-loop : tie.MeasureT-loop
-μ-loop size targets r₀ i₀ r i = length targets - i
+μ-loop order targets r₀ i₀ r i = length targets - i
 
 loop-holds : tie.Need-loop-holds Inv-loop μ-loop
 unfolding allZero
 loop-holds c = (omega arith, filled-none 8 _ _ refl refl)
 
+mul-slot-of : tie.Need-mul-slot-of Inv-loop μ-loop
+mul-slot-of c = search needs
+
+shared-slice-read-slot-of : tie.Need-shared-slice-read-slot-of Inv-loop μ-loop
+shared-slice-read-slot-of c = search needs
+
+slot-of-requires : tie.Need-slot-of-requires Inv-loop μ-loop
+slot-of-requires c κs = search needs
+
 mul-r : tie.Need-mul-r Inv-loop μ-loop
 mul-r c = search needs
-
-shared-slice-read-r : tie.Need-shared-slice-read-r Inv-loop μ-loop
-shared-slice-read-r c = search needs
-
-rem-r : tie.Need-rem-r Inv-loop μ-loop
-rem-r c = search needs
-
-cast-r : tie.Need-cast-r Inv-loop μ-loop
-cast-r c = record { fits = small-rest _ _ (c .before .before .before .pre .0) (c .before .before .before .pre .1) }
-
-mul-r-2 : tie.Need-mul-r-2 Inv-loop μ-loop
-mul-r-2 c = search needs
 
 array-write-r : tie.Need-array-write-r Inv-loop μ-loop
 array-write-r c = search needs
@@ -45,7 +43,7 @@ loop-less : tie.Need-loop-less Inv-loop μ-loop
 loop-less c = search needs
 
 loop-again : tie.Need-loop-again Inv-loop μ-loop
-loop-again c = (omega arith, filled-more _ (c .before .before .loop .inv .1) (omega (arith, c .before .before .before .pre .2)) refl)
+loop-again c = (omega arith, filled-more _ (c .before .before .before .loop .inv .1) (omega (arith, c .before .before .before .before .before .pre .1)) (c .slot-of .ensures))
 
 returns : tie.Need-returns Inv-loop μ-loop
 returns c = filled-all (omega arith) (c .before .loop .inv .1)
@@ -57,11 +55,10 @@ slots-of-spec =
     Inv-loop
     μ-loop
     loop-holds
+    mul-slot-of
+    shared-slice-read-slot-of
+    slot-of-requires
     mul-r
-    shared-slice-read-r
-    rem-r
-    cast-r
-    mul-r-2
     array-write-r
     add-i
     loop-less

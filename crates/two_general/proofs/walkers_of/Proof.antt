@@ -1,4 +1,4 @@
--- `two_draw::walkers_of` meets its contract. Assumes nothing.
+-- `two_general::walkers_of` meets its contract. Assumes nothing.
 use Prim.Native.Nat.{ℕ, _+_, _-_, _^_, _≤_, _<_}
 use mathlib.Core.Path.{_≡_, refl, sym, subst, _∙_, ap}
 use mathlib.Core.Logic.{_≢_}

@@ -1,4 +1,4 @@
--- `two_draw::write_head_if` meets its contract. Assumes nothing.
+-- `two_general::write_head_if` meets its contract. Assumes nothing.
 use Prim.Native.Nat.{_+_}
 use mathlib.Core.Path.{ap}
 use mathlib.Core.List.{List}

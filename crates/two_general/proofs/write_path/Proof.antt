@@ -1,4 +1,4 @@
--- `two_draw::write_path` meets its contract: the three pieces stand one after another. Assumes nothing.
+-- `two_general::write_path` meets its contract: the three pieces stand one after another. Assumes nothing.
 use mathlib.Core.Path.{_∙_, refl}
 use native.Mathlib.Omega.{arith}
 use lib.ListN.{length-set}

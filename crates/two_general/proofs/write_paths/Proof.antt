@@ -1,4 +1,4 @@
--- `two_draw::write_paths` meets its contract: one path more in each round. Assumes nothing.
+-- `two_general::write_paths` meets its contract: one path more in each round. Assumes nothing.
 use Prim.Native.Nat.{ℕ, _-_, _≤_, _<_}
 use mathlib.Core.Path.{_≡_, refl, subst}
 use native.Mathlib.Omega.{arith}

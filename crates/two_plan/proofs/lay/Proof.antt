@@ -1,18 +1,16 @@
 -- `two_plan::lay` meets its contract: one of three ways, over filled places. Assumes nothing.
 use mathlib.Core.Path.{_≡_, refl, subst, sym, _∙_}
 use native.Mathlib.Omega.{arith}
-use Rattle.bits.specs.Laws.{lt-or-le}
-use Rattle.two_plan.specs.Home.{Home}
-use Rattle.two_plan.specs.Sound.{ready, drawn-from, ring-ready, ring-drawn, trip, some-out, few, home-yes, home-no, home-size}
+use Rattle.two_plan.specs.Sound.{ready, drawn-from, ring-ready, ring-drawn, trip, some-out, few, home-yes, home-no}
 use borrow.Author.Needs.{needs}
 use Rattle.two_plan.proofs.lay.Statement.{statement}
 use Rattle.two_plan.proofs.lay.Tie as tie
 
 mul-fill : tie.Need-mul-fill
-mul-fill c = omega (arith, c .before .before .before .pre .room)
+mul-fill c = omega (arith, c .before .before .before .before .pre .room)
 
 fill-requires : tie.Need-fill-requires
-fill-requires c κs = c .before .before .before .before .pre .room
+fill-requires c κs = omega (arith, c .before .before .before .before .pre .room)
 
 plan-requires : tie.Need-plan-requires
 plan-requires c κs = ring-ready (c .before .before .before .before .before .before .before .before .before .before .pre) _ refl (c .before .before .before .before .before .fill .ensures) (c .before .before .if1 .taken)
@@ -29,14 +27,11 @@ returns c = ring-drawn (c .before .before .before .before .before .before .befor
 add-if2 : tie.Need-add-if2
 add-if2 c = omega (arith, c .before .before .before .before .before .before .before .before .pre .high)
 
-pow-requires : tie.Need-pow-requires
-pow-requires c κs = omega (arith, c .before .before .before .before .before .before .before .before .before .pre .high)
-
 all-home-requires : tie.Need-all-home-requires
-all-home-requires c κs = home-size _ _ (c .pow .ensures)
+all-home-requires c κs = c .before .before .before .before .before .before .before .before .before .pre .high
 
 plan-requires-2 : tie.Need-plan-requires-2
-plan-requires-2 c κs = trip (c .before .before .before .before .before .before .before .before .before .before .before .before .before .before .pre) _ refl (c .before .before .before .before .before .before .before .before .before .fill .ensures) (c .before .before .before .before .before .before .if1 .left) _ (c .before .before .before .before .pow .ensures) (c .before .before .before .before .before .if2 .taken) (home-yes (c .before .before .if3 .taken) (c .before .before .before .all-home .ensures))
+plan-requires-2 c κs = trip (c .before .before .before .before .before .before .before .before .before .before .before .before .before .pre) _ refl (c .before .before .before .before .before .before .before .before .fill .ensures) (c .before .before .before .before .before .if1 .left) (c .before .before .before .before .if2 .taken) (home-yes (c .before .before .if3 .taken) (c .before .before .before .all-home .ensures))
 
 same-length-3 : tie.Need-same-length-3
 same-length-3 c = search needs
@@ -45,10 +40,10 @@ same-length-4 : tie.Need-same-length-4
 same-length-4 c = search needs
 
 returns-2 : tie.Need-returns-2
-returns-2 c = drawn-from (c .before .before .before .before .before .before .before .before .before .before .before .before .before .before .before .before .before .before .before .pre) _ refl (c .before .before .before .before .before .before .before .before .before .before .before .before .before .before .fill .ensures) (c .before .before .before .before .plan2 .ensures)
+returns-2 c = drawn-from (c .before .before .before .before .before .before .before .before .before .before .before .before .before .before .before .before .before .before .pre) _ refl (c .before .before .before .before .before .before .before .before .before .before .before .before .before .fill .ensures) (c .before .before .before .before .plan2 .ensures)
 
 general-requires : tie.Need-general-requires
-general-requires c κs = some-out (c .before .before .before .before .before .before .before .before .before .before .before .before .before .before .pre) _ refl (c .before .before .before .before .before .before .before .before .before .fill .ensures) (c .before .before .before .before .before .before .if1 .left) _ (c .before .before .before .before .pow .ensures) (home-no (c .before .before .if3 .left) (c .before .before .before .all-home .ensures))
+general-requires c κs = some-out (c .before .before .before .before .before .before .before .before .before .before .before .before .before .pre) _ refl (c .before .before .before .before .before .before .before .before .fill .ensures) (c .before .before .before .before .before .if1 .left) (home-no (c .before .before .if3 .left) (c .before .before .before .all-home .ensures))
 
 same-length-5 : tie.Need-same-length-5
 same-length-5 c = search needs
@@ -57,7 +52,7 @@ same-length-6 : tie.Need-same-length-6
 same-length-6 c = search needs
 
 returns-3 : tie.Need-returns-3
-returns-3 c = drawn-from (c .before .before .before .before .before .before .before .before .before .before .before .before .before .before .before .before .before .before .before .pre) _ refl (c .before .before .before .before .before .before .before .before .before .before .before .before .before .before .fill .ensures) (c .before .before .before .before .general .ensures)
+returns-3 c = drawn-from (c .before .before .before .before .before .before .before .before .before .before .before .before .before .before .before .before .before .before .pre) _ refl (c .before .before .before .before .before .before .before .before .before .before .before .before .before .fill .ensures) (c .before .before .before .before .general .ensures)
 
 general-requires-2 : tie.Need-general-requires-2
 general-requires-2 c κs = few (c .before .before .before .before .before .before .before .before .before .before .before .pre) _ refl (c .before .before .before .before .before .before .fill .ensures) (c .before .before .before .if1 .left) (c .before .before .if2 .left)
@@ -82,7 +77,6 @@ lay-spec =
     same-length-2
     returns
     add-if2
-    pow-requires
     all-home-requires
     plan-requires-2
     same-length-3

@@ -23,20 +23,20 @@ slot-of-requires c κs = search needs
 slots-of-requires : tie.Need-slots-of-requires Inv-loop μ-loop
 slots-of-requires c κs = let q = c .before .before .before .before .before .pre in (q .high, omega (arith, q .all, q .high))
 
-pow-requires : tie.Need-pow-requires Inv-loop μ-loop
-pow-requires c κs = omega (arith, c .before .before .before .before .before .before .pre .high)
+power-requires : tie.Need-power-requires Inv-loop μ-loop
+power-requires c κs = omega (arith, c .before .before .before .before .before .before .pre .high)
 
 sub-plan-rows : tie.Need-sub-plan-rows Inv-loop μ-loop
-sub-plan-rows c = omega (arith, c .pow .ensures, pow-pos (c .before .before .before .before .before .before .before .args .m))
+sub-plan-rows c = omega (arith, c .power .ensures, pow-pos (c .before .before .before .before .before .before .before .args .m))
 
 sub-plan-rows-2 : tie.Need-sub-plan-rows-2 Inv-loop μ-loop
-sub-plan-rows-2 c = omega (arith, c .pow .ensures, pow-pos (c .before .before .before .before .before .before .before .args .m))
+sub-plan-rows-2 c = omega (arith, c .power .ensures, pow-pos (c .before .before .before .before .before .before .before .args .m))
 
 slice-aggregate-plan-rows : tie.Need-slice-aggregate-plan-rows Inv-loop μ-loop
 slice-aggregate-plan-rows c = search needs
 
 plan-rows-requires : tie.Need-plan-rows-requires Inv-loop μ-loop
-plan-rows-requires c κs = (trip-asked (c .before .before .before .before .before .before .before .before .pre) (c .before .before .slots-of .ensures) _ _ (c .before .before .before .before .block-of .ensures) (c .before .before .before .slot-of .ensures) _ (c .before .pow .ensures), search needs)
+plan-rows-requires c κs = (trip-asked (c .before .before .before .before .before .before .before .before .pre) (c .before .before .slots-of .ensures) _ _ (c .before .before .before .before .block-of .ensures) (c .before .before .before .slot-of .ensures) _ (c .before .power .ensures), search needs)
 
 mul-find : tie.Need-mul-find Inv-loop μ-loop
 mul-find c = omega (arith, c .before .before .before .before .before .before .before .before .before .before .before .pre .high)
@@ -45,10 +45,10 @@ array-read-find : tie.Need-array-read-find Inv-loop μ-loop
 array-read-find c = omega (arith, c .before .before .before .before .before .before .before .before .before .before .before .pre .high)
 
 find-requires : tie.Need-find-requires Inv-loop μ-loop
-find-requires c κs = trip-finds (c .before .before .before .before .before .before .before .before .before .before .before .pre) (c .before .before .before .before .before .slots-of .ensures) _ _ (c .before .before .before .before .before .before .before .block-of .ensures) (c .before .before .before .before .before .before .slot-of .ensures) _ _ (c .before .before .before .before .pow .ensures) (c .before .before .plan-rows .ensures)
+find-requires c κs = trip-finds (c .before .before .before .before .before .before .before .before .before .before .before .pre) (c .before .before .before .before .before .slots-of .ensures) _ _ (c .before .before .before .before .before .before .before .block-of .ensures) (c .before .before .before .before .before .before .slot-of .ensures) _ _ (c .before .before .before .before .power .ensures) (c .before .before .plan-rows .ensures)
 
 loop-holds : tie.Need-loop-holds Inv-loop μ-loop
-loop-holds c = going-none _ (c .before .before .before .before .before .before .before .before .before .before .before .before .pre) (c .before .before .before .before .before .before .slots-of .ensures) (c .before .before .before .before .before .before .before .before .block-of .ensures) (c .before .before .before .before .before .before .before .slot-of .ensures) (c .before .before .before .before .before .pow .ensures) (c .before .before .before .plan-rows .ensures) (c .find .ensures)
+loop-holds c = going-none _ (c .before .before .before .before .before .before .before .before .before .before .before .before .pre) (c .before .before .before .before .before .before .slots-of .ensures) (c .before .before .before .before .before .before .before .before .block-of .ensures) (c .before .before .before .before .before .before .before .slot-of .ensures) (c .before .before .before .before .before .power .ensures) (c .before .before .before .plan-rows .ensures) (c .find .ensures)
 
 write-path-requires : tie.Need-write-path-requires Inv-loop μ-loop
 write-path-requires c κs = going-asks (c .before .before .before .before .loop .inv) (c .before .before .before .loop-test .taken)
@@ -80,7 +80,7 @@ plan-spec =
     block-of-requires
     slot-of-requires
     slots-of-requires
-    pow-requires
+    power-requires
     sub-plan-rows
     sub-plan-rows-2
     slice-aggregate-plan-rows

@@ -1,4 +1,4 @@
--- `two_taken::crowd_by` meets its contract. Assumes nothing.
+-- `two_takeover::crowd_by` meets its contract. Assumes nothing.
 use mathlib.Core.Path.{subst}
 use Prim.Native.Nat.{ℕ}
 use native.Mathlib.Omega.{arith}

@@ -1,4 +1,4 @@
--- `two_taken::enter_by` meets its contract. Assumes nothing.
+-- `two_takeover::enter_by` meets its contract. Assumes nothing.
 use mathlib.Core.Path.{_∙_, sym}
 use native.Mathlib.Omega.{arith}
 use Rattle.two_takeover.specs.Over.{row-count, some-hops, enters-first, enters-door, last-differ}

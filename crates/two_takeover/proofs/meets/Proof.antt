@@ -1,4 +1,4 @@
--- `two_taken::meets` meets its contract. Assumes nothing.
+-- `two_takeover::meets` meets its contract. Assumes nothing.
 use mathlib.Core.Path.{sym}
 use mathlib.Core.Logic.{inl, inr, ⊎-elim}
 use borrow.Author.Tests.{eqb-true, eqb-false, not-true, not-false}

@@ -1,4 +1,4 @@
--- `two_taken::met` meets its contract. Assumes nothing.
+-- `two_takeover::met` meets its contract. Assumes nothing.
 use Prim.Native.Nat.{ℕ, _≤_, _<_, _-_}
 use mathlib.Core.Path.{_≡_, refl}
 use native.Mathlib.Omega.{arith}

@@ -1,4 +1,4 @@
--- `two_taken::step` meets its contract. Assumes nothing.
+-- `two_takeover::step` meets its contract. Assumes nothing.
 use Prim.Native.Nat.{ℕ, _^_}
 use mathlib.Core.Path.{_≡_, _∙_, ap, sym, subst}
 use native.Mathlib.Nat.{one-mul}

@@ -1,4 +1,4 @@
--- `two_taken::tail_of` meets its contract: the invariant is `Tailing`. Assumes nothing.
+-- `two_takeover::tail_of` meets its contract: the invariant is `Tailing`. Assumes nothing.
 use mathlib.Core.Path.{refl}
 use lib.ListN.{length-set}
 use native.Mathlib.Omega.{arith}

@@ -1,4 +1,4 @@
--- `two_taken::take_over` meets its contract. Assumes nothing.
+-- `two_takeover::take_over` meets its contract. Assumes nothing.
 use native.Mathlib.Omega.{arith}
 use Rattle.two_write.specs.Blocks.{order-small}
 use Rattle.two_takeover.specs.TakeOver.{over-none, small, last-ask, tail-ask, over-some}

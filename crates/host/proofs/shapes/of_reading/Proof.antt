@@ -5,11 +5,11 @@ use Rattle.host.proofs.shapes.of_reading.Statement.{statement}
 use Rattle.host.proofs.shapes.of_reading.Tie as tie
 use Rattle.host.proofs.shapes.of_reading.Reads as reads
 use Rattle.host.proofs.shapes.of_reading.Lts as lts
-use Rattle.sheet_check.proofs.Reading.mesh.Reads as mesh-reads
-use Rattle.sheet_check.proofs.Reading.number.Reads as number-reads
-use Rattle.sheet_check.proofs.Reading.path.Reads as path-reads
-use Rattle.sheet_check.proofs.Reading.paths.Reads as paths-reads
-use Rattle.sheet_check.proofs.Reading.source.Reads as source-reads
+use Rattle.sheet.proofs.Reading.mesh.Reads as mesh-reads
+use Rattle.sheet.proofs.Reading.number.Reads as number-reads
+use Rattle.sheet.proofs.Reading.path.Reads as path-reads
+use Rattle.sheet.proofs.Reading.paths.Reads as paths-reads
+use Rattle.sheet.proofs.Reading.source.Reads as source-reads
 
 mesh-requires : tie.Need-mesh-requires
 mesh-requires c κs = search needs

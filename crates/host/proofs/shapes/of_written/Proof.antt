@@ -6,8 +6,8 @@ use Rattle.host.proofs.shapes.of_written.Statement.{statement}
 use Rattle.host.proofs.shapes.of_written.Tie as tie
 use Rattle.host.proofs.shapes.of_written.Reads as reads
 use Rattle.host.proofs.shapes.of_written.Lts as lts
-use Rattle.sheet_write.proofs.Written.bytes.Reads as bytes-reads
-use Rattle.sheet_write.proofs.Written.number.Reads as number-reads
+use Rattle.sheet.proofs.Written.bytes.Reads as bytes-reads
+use Rattle.sheet.proofs.Written.number.Reads as number-reads
 
 number-requires : tie.Need-number-requires
 number-requires c κs = search needs

@@ -1,8 +1,8 @@
--- `mesh::pairs::joined` meets its contract: a mesh that there is is a cube or a two-level mesh. Assumes nothing.
+-- `mesh::pairs::joined` meets its contract: a mesh that there is is of one of the kinds. Assumes nothing.
 use mathlib.Core.Path.{_∙_}
-use Rattle.two.specs.Parts.{known-bounds}
+use Rattle.two_parts.specs.Parts.{known-bounds}
 use Rattle.mesh.specs.Kinds.{Kind}
-use Rattle.mesh.specs.Laws.{as-cube, not-cube, known-two}
+use Rattle.mesh.specs.Laws.{as-cube, as-two, known-two, no-other}
 use borrow.Author.Needs.{needs}
 use Rattle.mesh.proofs.pairs.joined.Statement.{statement}
 use Rattle.mesh.proofs.pairs.joined.Tie as tie
@@ -16,13 +16,16 @@ returns c =
     c .differ-in-one .ensures ∙ as-cube (λ (K : Kind). K .mesh (a .mesh .size) .linked (a .u) (a .v)) (c .before .if1 .taken)
 
 link-requires : tie.Need-link-requires
-link-requires c κs = let s = c .before .before in known-bounds (s .args .mesh .size) (known-two (s .args .mesh .kind) (s .args .mesh .size) (s .pre) (c .if1 .left)) .1
+link-requires c κs = let s = c .before .before .before .before in known-bounds (s .args .mesh .size) (known-two (s .args .mesh .kind) (s .args .mesh .size) (s .pre) (c .if2 .taken)) .1
 
 returns-2 : tie.Need-returns-2
 returns-2 c =
-    let s = c .before .before .before in
-    let a = s .args in
-    c .link .ensures ∙ not-cube (a .mesh .kind) (a .mesh .size) (s .pre) (λ (K : Kind). K .mesh (a .mesh .size) .linked (a .u) (a .v)) (c .before .if1 .left)
+    let a = c .before .before .before .before .before .args in
+    c .link .ensures ∙ as-two (λ (K : Kind). K .mesh (a .mesh .size) .linked (a .u) (a .v)) (c .before .before .before .if1 .left) (c .before .if2 .taken)
+
+-- there is no mesh of another kind
+returns-3 : tie.Need-returns-3
+returns-3 c = let s = c .before .before .before .before in absurd (no-other (s .args .mesh .kind) (s .args .mesh .size) (s .pre) (c .before .before .if1 .left) (c .if2 .left))
 
 pub joined-spec : {M : Type 1} → statement M
-joined-spec = tie.close (tie.spec differ-in-one-requires returns link-requires returns-2)
+joined-spec = tie.close (tie.spec differ-in-one-requires returns link-requires returns-2 returns-3)

@@ -1,9 +1,9 @@
 -- `mesh::requested::short` meets its contract: paths and places of a mesh that there is are few. Assumes nothing.
 use mathlib.Core.Path.{sym, ap, _∙_}
-use native.Mathlib.Nat.{mul-le-mul}
+use native.Mathlib.Nat.{mul-le-mul-right}
 use native.Mathlib.Omega.{arith}
 use borrow.Author.Tests.{lt-ltb, le-ltb}
-use Rattle.mesh.specs.Laws.{known-small}
+use Rattle.mesh.specs.Limits.{known-places}
 use Rattle.mesh.proofs.requested.short.Statement.{statement}
 use Rattle.mesh.proofs.requested.short.Tie as tie
 
@@ -13,8 +13,9 @@ places-in-requires c κs = c .pre .0
 mul-if1 : tie.Need-mul-if1
 mul-if1 c =
     let s = c .before in
-    let few = known-small (s .args .mesh .kind) (s .args .mesh .size) (s .pre .0) in
-    omega (arith, mul-le-mul {n₁ = s .args .k} {m₁ = c .places-in .result} {n₂ = 32} {m₂ = 207} (omega (arith, few .0, s .pre .1)) (omega (arith, few .1, c .places-in .ensures)))
+    let all = known-places (s .args .mesh .kind) (s .args .mesh .size) (s .pre .0) in
+    let some = mul-le-mul-right (c .places-in .result) (s .pre .1) in
+    omega (arith, rw (sym (c .places-in .ensures)) at all, some)
 
 returns : tie.Need-returns
 returns c = rw (sym (c .before .places-in .ensures)) (simp (lt-ltb _ _ (c .if1 .taken)))

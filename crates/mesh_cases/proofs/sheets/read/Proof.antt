@@ -6,9 +6,9 @@ use Rattle.mesh_cases.proofs.sheets.read.Statement.{statement}
 use Rattle.mesh_cases.proofs.sheets.read.Tie as tie
 use Rattle.mesh_cases.proofs.sheets.read.Reads as reads
 use Rattle.mesh_cases.proofs.sheets.read.Lts as lts
-use Rattle.script.proofs.item.Reads as item-reads
 use Rattle.script.proofs.run.Reads as run-reads
 use Rattle.mesh_cases.proofs.sheets.as_bytes.Reads as as-bytes-reads
+use Rattle.mesh_cases.proofs.sheets.room_at.Reads as room-at-reads
 use Rattle.mesh_cases.proofs.sheets.tell_read.Reads as tell-read-reads
 
 run-requires : tie.Need-run-requires
@@ -26,20 +26,8 @@ add-e c = search needs
 add-e-2 : tie.Need-add-e-2
 add-e-2 c = search needs
 
-item-requires : tie.Need-item-requires
-item-requires c κs = search needs
-
-add-item : tie.Need-add-item
-add-item c = search needs
-
-item-requires-2 : tie.Need-item-requires-2
-item-requires-2 c κs = search needs
-
-add-item-2 : tie.Need-add-item-2
-add-item-2 c = search needs
-
-item-requires-3 : tie.Need-item-requires-3
-item-requires-3 c κs = search needs
+room-at-requires : tie.Need-room-at-requires
+room-at-requires c κs = search needs
 
 array-share-prefix-bytes : tie.Need-array-share-prefix-bytes
 array-share-prefix-bytes c = search needs
@@ -74,11 +62,7 @@ read-spec =
     as-bytes-requires
     add-e
     add-e-2
-    item-requires
-    add-item
-    item-requires-2
-    add-item-2
-    item-requires-3
+    room-at-requires
     array-share-prefix-bytes
     slice-aggregate-tell-read
     slice-aggregate-tell-read-2

@@ -9,8 +9,8 @@ use Rattle.mesh_cases.proofs.sheets.tell_written.Lts as lts
 use Rattle.script.proofs.least.Reads as least-reads
 use Rattle.script.proofs.put.Reads as put-reads
 use Rattle.script.proofs.text.Reads as text-reads
-use Rattle.sheet_write.proofs.Written.bytes.Reads as bytes-reads
-use Rattle.sheet_write.proofs.Written.number.Reads as number-reads
+use Rattle.sheet.proofs.Written.bytes.Reads as bytes-reads
+use Rattle.sheet.proofs.Written.number.Reads as number-reads
 use Rattle.sheet_write.proofs.write.Reads as write-reads
 use Rattle.mesh_cases.proofs.sheets.put_bytes.Reads as put-bytes-reads
 

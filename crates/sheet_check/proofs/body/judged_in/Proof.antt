@@ -1,6 +1,6 @@
 -- `sheet_check::body::judged_in` meets its contract: the judge is lent what was taken, and no more. Assumes nothing.
 use native.Mathlib.Omega.{arith}
-use lib.ListN.{length, length-take}
+use lib.ListN.{length-take}
 use Rattle.sheet_check.specs.Judged.{judged-sheet}
 use borrow.Author.Needs.{needs}
 use Rattle.sheet_check.proofs.body.judged_in.Statement.{statement}

@@ -3,7 +3,7 @@ use mathlib.Core.Path.{ap}
 use mathlib.Core.Option.{Option}
 use native.Mathlib.Omega.{arith}
 use Rattle.mesh.specs.Kinds.{meshOf}
-use Rattle.sheet_check.specs.Says.{tellRead}
+use Rattle.sheet.specs.Says.{tellRead}
 use Rattle.sheet_check.specs.Heads.{count-none, count-many, count-fine}
 use Rattle.sheet.specs.declared.Flaw.{Flaw}
 use borrow.Author.Needs.{needs}

@@ -1,13 +1,11 @@
 -- `sheet_check::heads::head` meets its contract: each test is one of the definition's. Assumes nothing.
 use Prim.Native.Nat.{ℕ}
 use mathlib.Core.Path.{sym, ap, _∙_}
-use mathlib.Core.Option.{Option}
 use native.Mathlib.Omega.{arith}
-use Rattle.mesh.specs.Kinds.{meshOf}
-use Rattle.sheet.specs.Format.{kindAt, sizeAt, sourceAt, countAt}
-use Rattle.sheet_check.specs.Says.{tellRead, countAgainst, meshAt, sheetTold}
+use Rattle.sheet.specs.Format.{kindAt, sizeAt, countAt}
+use Rattle.sheet.specs.Says.{tellRead}
+use Rattle.sheet_check.specs.Says.{countAgainst, meshAt, sheetTold}
 use Rattle.sheet_check.specs.Heads.{head-few, head-long, head-version, head-unknown, head-known}
-use Rattle.sheet.specs.declared.Flaw.{Flaw}
 use borrow.Author.Needs.{needs}
 use Rattle.sheet_check.proofs.heads.head.Statement.{statement}
 use Rattle.sheet_check.proofs.heads.head.Tie as tie

@@ -3,9 +3,10 @@ use mathlib.Core.Path.{_∙_}
 use mathlib.Core.Bool.{false}
 use borrow.Author.Needs.{needs}
 use Rattle.answers.specs.Pairs.{told-refused, told-fine}
-use Rattle.two.specs.Two.{linked}
-use Rattle.two.specs.Parts.{known-bounds}
-use Rattle.two.specs.Needs.{Fine, fine}
+use Rattle.two_parts.specs.Two.{linked}
+use Rattle.two_parts.specs.Parts.{known-bounds}
+use Rattle.two_parts.specs.Needs.{Fine}
+use Rattle.two.specs.Needs.{fine}
 use Rattle.two.proofs.links.linked.Statement.{statement}
 use Rattle.two.proofs.links.linked.Tie as tie
 

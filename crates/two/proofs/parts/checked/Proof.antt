@@ -2,8 +2,8 @@
 use borrow.Author.Needs.{needs}
 use borrow.Author.Tests.{not-true, not-false}
 use Rattle.answers.specs.Pairs.{pair-unknown, pair-source, pair-target, pair-fine}
-use Rattle.two.specs.Two.{relays}
-use Rattle.two.specs.Parts.{few}
+use Rattle.two_parts.specs.Two.{relays}
+use Rattle.two_parts.specs.Parts.{few}
 use Rattle.two.proofs.parts.checked.Statement.{statement}
 use Rattle.two.proofs.parts.checked.Tie as tie
 

@@ -2,7 +2,7 @@
 use mathlib.Core.Path.{sym, _∙_}
 use borrow.Author.Needs.{needs}
 use borrow.Author.Tests.{not-true, not-false}
-use Rattle.two.specs.Parts.{few, named-unknown, named-relay, named-block-out, named-slot-out}
+use Rattle.two_parts.specs.Parts.{few, named-unknown, named-relay, named-block-out, named-slot-out}
 use Rattle.two.proofs.parts.named.Statement.{statement}
 use Rattle.two.proofs.parts.named.Tie as tie
 

@@ -3,9 +3,10 @@ use Prim.Native.Nat.{ℕ}
 use mathlib.Core.Path.{ap₂}
 use borrow.Author.Needs.{needs}
 use Rattle.answers.specs.Pairs.{told-refused, told-fine}
-use Rattle.two.specs.Two.{blockOf, slotOf}
-use Rattle.two.specs.Parts.{known-bounds}
-use Rattle.two.specs.Needs.{Fine, fine}
+use Rattle.two_parts.specs.Two.{blockOf, slotOf}
+use Rattle.two_parts.specs.Parts.{known-bounds}
+use Rattle.two_parts.specs.Needs.{Fine}
+use Rattle.two.specs.Needs.{fine}
 use Rattle.two.proofs.parts.split.Statement.{statement}
 use Rattle.two.proofs.parts.split.Tie as tie
 

@@ -5,10 +5,10 @@ use mathlib.Core.Logic.{_≢_}
 use native.Mathlib.Omega.{arith}
 use Rattle.paths.specs.Walk.{node}
 use Rattle.paths.specs.Walks.{node-start, node-more}
-use Rattle.two.specs.Two.{relays}
+use Rattle.two_parts.specs.Two.{relays}
 use Rattle.two.specs.Next.{next, hops}
-use Rattle.two.specs.Parts.{known-bounds, longest-few}
-use Rattle.two.specs.Needs.{Fine}
+use Rattle.two_parts.specs.Parts.{known-bounds, longest-few}
+use Rattle.two_parts.specs.Needs.{Fine}
 use Rattle.paths.specs.Ends.{not-yet, now-there}
 use Rattle.two.specs.Steps.{node-below, hops-arrive, hops-bound}
 use Rattle.two.proofs.routes.hops.Statement.{statement}

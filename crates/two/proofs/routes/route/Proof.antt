@@ -10,10 +10,11 @@ use lib.ListN.{length, drop}
 use Rattle.answers.specs.Order.{Fault, pairFaults}
 use Rattle.answers.specs.Pairs.{lent-refused, lent-short, lent-fine}
 use Rattle.answers.specs.Told.{told}
-use Rattle.two.specs.Two.{relays}
+use Rattle.two_parts.specs.Two.{relays}
 use Rattle.two.specs.Next.{hops, route}
-use Rattle.two.specs.Says.{sizeFaultsIn}
-use Rattle.two.specs.Needs.{Fine, fine}
+use Rattle.two_parts.specs.Says.{sizeFaultsIn}
+use Rattle.two_parts.specs.Needs.{Fine}
+use Rattle.two.specs.Needs.{fine}
 use Rattle.two.proofs.routes.route.Statement.{statement}
 use Rattle.two.proofs.routes.route.Tie as tie
 

@@ -9,7 +9,7 @@ use lib.Seq.{drop-set-lt}
 use Rattle.paths.specs.Walk.{node}
 use Rattle.paths.specs.Walk as walk
 use Rattle.paths.specs.Walks.{node-start, node-more, route-start, route-more}
-use Rattle.two.specs.Two.{relays}
+use Rattle.two_parts.specs.Two.{relays}
 use Rattle.two.specs.Next.{next, route}
 use Rattle.two.specs.Steps.{node-below}
 use Rattle.two.proofs.routes.write.Statement.{statement}

@@ -1,9 +1,9 @@
 -- `two::steps::hop` meets its contract. Assumes nothing.
 use Prim.Native.Nat.{ℕ, _<_}
 use mathlib.Core.Path.{_∙_, sym, ap₂, subst}
-use Rattle.two.specs.Two.{slots, blocks, blockOf, slotOf}
+use Rattle.two_parts.specs.Two.{slots, blocks, blockOf, slotOf}
 use Rattle.two.specs.Next.{step, next}
-use Rattle.two.specs.Parts.{known-bounds, block-below, slot-below}
+use Rattle.two_parts.specs.Parts.{known-bounds, block-below, slot-below}
 use Rattle.two.proofs.steps.hop.Statement.{statement}
 use Rattle.two.proofs.steps.hop.Tie as tie
 

@@ -4,7 +4,8 @@ use mathlib.Core.Bool.{false}
 use borrow.Author.Needs.{needs}
 use Rattle.answers.specs.Pairs.{told-refused, told-fine}
 use Rattle.two.specs.Next.{next}
-use Rattle.two.specs.Needs.{Fine, fine}
+use Rattle.two_parts.specs.Needs.{Fine}
+use Rattle.two.specs.Needs.{fine}
 use Rattle.two.proofs.steps.next_hop.Statement.{statement}
 use Rattle.two.proofs.steps.next_hop.Tie as tie
 

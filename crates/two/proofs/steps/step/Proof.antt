@@ -2,10 +2,10 @@
 use Prim.Native.Nat.{ℕ, _<_}
 use mathlib.Core.Path.{_≡_, _∙_, sym, ap, ap₂, subst}
 use native.Mathlib.Omega.{arith}
-use Rattle.two.specs.Two.{slots, blocks, relay}
+use Rattle.two_parts.specs.Two.{slots, blocks, relay}
 use Rattle.two.specs.Next.{heading, crossed, toward, nextBlock, nextSlot}
 use Rattle.two.specs.Next as def
-use Rattle.two.specs.Parts.{slots-few}
+use Rattle.two_parts.specs.Parts.{slots-few}
 use Rattle.two.specs.Steps.{heading-below, step-within}
 use Rattle.two.proofs.steps.step.Statement.{statement}
 use Rattle.two.proofs.steps.step.Tie as tie

@@ -3,8 +3,9 @@ use mathlib.Core.Path.{_∙_}
 use mathlib.Core.Bool.{false}
 use borrow.Author.Needs.{needs}
 use Rattle.answers.specs.Pairs.{told-refused, told-fine}
-use Rattle.two.specs.Seen.{seen}
-use Rattle.two.specs.Needs.{Fine, fine}
+use Rattle.two_parts.specs.Seen.{seen}
+use Rattle.two_parts.specs.Needs.{Fine}
+use Rattle.two.specs.Needs.{fine}
 use Rattle.two.proofs.views.seen.Statement.{statement}
 use Rattle.two.proofs.views.seen.Tie as tie
 

@@ -1,0 +1,2 @@
+-- The pieces of an answer written.
+pub mod Writes

@@ -1,0 +1,2 @@
+-- An answer written: why the writer keeps its promise.
+pub mod Rooms

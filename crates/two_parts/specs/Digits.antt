@@ -1,0 +1,161 @@
+-- Laws of bits that the two-level mesh needs beside those of the crate `bits`. Assumes nothing.
+--
+-- `gather-bit`, `gather-lt`: a number made of its bits. `shuffled-xor`, `shuffled-pow`, `shuffled-same`: moving each bit from p to
+-- p xor b keeps the xor of two numbers, takes 2 ^ p to 2 ^ (p xor b), and leaves different numbers different.
+use Prim.Native.Nat.{ℕ, zero, suc, _+_, _-_, _*_, _/_, _%_, _^_, _≤_, _<_}
+use mathlib.Core.Path.{_≡_, refl, sym, ap, ap₂, _∙_}
+use mathlib.Core.Logic.{_⊎_, inl, inr, ⊎-elim}
+use native.Mathlib.Nat.{pow-suc, zero-mul, one-mul, lt-of-lt-of-le}
+use native.Mathlib.Omega.{arith}
+use native.Mathlib.Decide.{ℕ-discrete}
+use lib.Arith.{lt-one, digits-div}
+use lib.Pow.{pow-pos, pow-lt, pow-mono}
+use lib.Bits.{bitXor, differ, xor-comm, xor-lt}
+use Rattle.bits.specs.Bit.{bit, flip, Lowest}
+use Rattle.bits.specs.Laws.{bit-lt, bit-suc, bit-none, bit-xor, bit-pow-same, bit-pow-other, clash, lt-or, lt-or-le, same-bits, xor-assoc, xor-back}
+use Rattle.two_parts.specs.Seen.{gather, shuffled}
+
+-- ---- one bit
+
+-- a number below 2 ^ n has no bit from n on
+pub bit-high : (n c x : ℕ) → x < 2 ^ n → n ≤ c → bit c x ≡ 0
+bit-high zero c x h g = ap (bit c) (lt-one h) ∙ bit-none c
+bit-high (suc n) zero x h g = absurd (omega arith)
+bit-high (suc n) (suc c) x h g = bit-suc c x ∙ bit-high n c (x / 2) (omega (arith, rw pow-suc at h)) (omega arith)
+
+pub bit-below : (n i x : ℕ) → x < 2 ^ n → bit i x ≡ 1 → i < n
+bit-below n i x h o = ⊎-elim (λ l. l) (λ g. absurd (clash (bit-high n i x h g) o)) (lt-or-le i n)
+
+-- the lowest set bit is the same at every width
+pub lowest-alike : (v w x i j : ℕ) → Lowest v x i → Lowest w x j → i ≡ j
+lowest-alike v w x i j p q =
+    ⊎-elim (λ l. absurd (clash (q .below i l) (p .set)))
+    (λ r. ⊎-elim (λ e. e) (λ l. absurd (clash (p .below j l) (q .set))) r) (lt-or i j)
+
+-- ---- xor
+
+pub xor-forth : (a b : ℕ) → bitXor a (bitXor a b) ≡ b
+xor-forth a b = xor-comm a (bitXor a b) ∙ ap (λ (y : ℕ). bitXor y a) (xor-comm a b) ∙ xor-back b a
+
+-- two numbers changed alike
+pub xor-alike : (x y a : ℕ) → bitXor (bitXor x a) (bitXor y a) ≡ bitXor x y
+xor-alike x y a =
+    ap (bitXor (bitXor x a)) (xor-comm y a) ∙ xor-assoc x a (bitXor a y) ∙ ap (bitXor x) (xor-forth a y)
+
+pub xor-same : (x y a : ℕ) → bitXor x a ≡ bitXor y a → x ≡ y
+xor-same x y a e = sym (xor-back x a) ∙ ap (λ (z : ℕ). bitXor z a) e ∙ xor-back y a
+
+-- the xor is one bit: the one has it changed
+pub xor-flip : (x y i : ℕ) → bitXor x y ≡ 2 ^ i → y ≡ flip x i
+unfolding flip
+xor-flip x y i e = sym (xor-forth x y) ∙ ap (bitXor x) e
+
+pub flip-is-xor : (x y i : ℕ) → y ≡ flip x i → bitXor x y ≡ 2 ^ i
+unfolding flip
+flip-is-xor x y i e = ap (bitXor x) e ∙ xor-forth x (2 ^ i)
+
+-- ---- a number made of its bits
+
+gather-more : (f : ℕ → ℕ) (n : ℕ) → gather f (suc n) ≡ f n * 2 ^ n + gather f n
+unfolding gather
+gather-more f n = omega arith
+
+-- the code's n + 1
+pub gather-next : (f : ℕ → ℕ) (n : ℕ) → gather f (n + 1) ≡ gather f n + f n * 2 ^ n
+unfolding gather
+gather-next f n = rw (native.Mathlib.Numerals.add-one n)
+
+pub gather-none : (f : ℕ → ℕ) → gather f 0 ≡ 0
+unfolding gather
+gather-none f = refl
+
+digit : (x n : ℕ) → x < 2 → (x * 2 ^ n ≡ 0) ⊎ (x * 2 ^ n ≡ 2 ^ n)
+digit zero n h = inl (zero-mul (2 ^ n))
+digit (suc zero) n h = inr (one-mul (2 ^ n))
+digit (suc (suc x)) n h = absurd (omega arith)
+
+pub gather-lt : (f : ℕ → ℕ) (n : ℕ) → ((i : ℕ) → f i < 2) → gather f n < 2 ^ n
+gather-lt f zero h = omega (arith, gather-none f)
+gather-lt f (suc n) h =
+    ⊎-elim (λ e. omega (arith, gather-more f n, gather-lt f n h, pow-suc 2 n))
+    (λ e. omega (arith, gather-more f n, gather-lt f n h, pow-suc 2 n)) (digit (f n) n (h n))
+
+-- the bits of two digits
+bit-top : (n q r : ℕ) → q < 2 → r < 2 ^ n → bit n (q * 2 ^ n + r) ≡ q
+unfolding bit
+bit-top n q r h g = ap (λ (y : ℕ). y % 2) (digits-div q g) ∙ small q h
+  where
+    small : (x : ℕ) → x < 2 → x % 2 ≡ x
+    small x l = omega arith
+
+bit-under : (n i q r : ℕ) → i < n → bit i (q * 2 ^ n + r) ≡ bit i r
+bit-under zero i q r l = absurd (omega arith)
+bit-under (suc n) zero q r l = Rattle.bits.specs.Laws.bit-zero (q * 2 ^ suc n + r) ∙ lib.Bits.block-odd q n r ∙ sym (Rattle.bits.specs.Laws.bit-zero r)
+bit-under (suc n) (suc i) q r l =
+    bit-suc i (q * 2 ^ suc n + r) ∙ ap (bit i) (lib.Bits.block-half q n r) ∙ bit-under n i q (r / 2) (omega arith) ∙ sym (bit-suc i r)
+
+pub gather-bit : (f : ℕ → ℕ) (n i : ℕ) → ((j : ℕ) → f j < 2) → i < n → bit i (gather f n) ≡ f i
+gather-bit f zero i h l = absurd (omega arith)
+gather-bit f (suc n) i h l = ap (bit i) (gather-more f n) ∙ go (ℕ-discrete i n) (λ g. gather-bit f n i h g)
+  where
+    go : Dec (i ≡ n) → (i < n → bit i (gather f n) ≡ f i) → bit i (f n * 2 ^ n + gather f n) ≡ f i
+    go (yes e) rest = rw e (bit-top n (f n) (gather f n) (h n) (gather-lt f n h))
+    go (no ne) rest = bit-under n i (f n) (gather f n) (omega arith) ∙ rest (omega arith)
+
+-- a bit at its place, and one more, fit a word
+pub placed-fits : (j x i : ℕ) → i < 64 → bit j x * 2 ^ i < 2 ^ 64
+placed-fits j x i h = ⊎-elim (λ e. rw e (pow-pos 64)) (λ e. rw e (pow-lt h)) (digit (bit j x) i (bit-lt j x))
+
+pub gather-fits : (f : ℕ → ℕ) (i : ℕ) → ((j : ℕ) → f j < 2) → i < 64 → gather f i + f i * 2 ^ i < 2 ^ 64
+gather-fits f i h l = rw (← gather-next f i) (lt-of-lt-of-le (gather-lt f (i + 1) h) (pow-mono {j = 64} (omega arith)))
+
+-- ---- bits moved from p to p xor b
+
+module _ (m b : ℕ) (hb : b < 2 ^ m) where
+  pub shuffled-lt : (x : ℕ) → shuffled (2 ^ m) b x < 2 ^ (2 ^ m)
+  unfolding shuffled
+  shuffled-lt x = gather-lt _ (2 ^ m) (λ i. bit-lt _ x)
+
+  pub shuffled-bit : (x i : ℕ) → i < 2 ^ m → bit i (shuffled (2 ^ m) b x) ≡ bit (bitXor i b) x
+  unfolding shuffled
+  shuffled-bit x i l = gather-bit (λ i. bit (bitXor i b) x) (2 ^ m) i (λ j. bit-lt (bitXor j b) x) l
+
+  -- the bit p stands at p xor b
+  pub shuffled-moves : (x p : ℕ) → p < 2 ^ m → bit (bitXor p b) (shuffled (2 ^ m) b x) ≡ bit p x
+  shuffled-moves x p l = shuffled-bit x (bitXor p b) (xor-lt m p b l hb) ∙ ap (λ (y : ℕ). bit y x) (xor-back p b)
+
+  pub shuffled-xor : (x y : ℕ) → bitXor (shuffled (2 ^ m) b x) (shuffled (2 ^ m) b y) ≡ shuffled (2 ^ m) b (bitXor x y)
+  shuffled-xor x y =
+      let s = shuffled (2 ^ m) b in
+      same-bits (2 ^ m) (bitXor (s x) (s y)) (s (bitXor x y)) (xor-lt (2 ^ m) (s x) (s y) (shuffled-lt x) (shuffled-lt y)) (shuffled-lt (bitXor x y))
+      (λ i l. bit-xor i (s x) (s y) ∙ ap₂ differ (shuffled-bit x i l) (shuffled-bit y i l) ∙ sym (shuffled-bit (bitXor x y) i l ∙ bit-xor (bitXor i b) x y))
+
+  pub shuffled-pow : (p : ℕ) → p < 2 ^ m → shuffled (2 ^ m) b (2 ^ p) ≡ 2 ^ bitXor p b
+  shuffled-pow p l =
+      let q = xor-lt m p b l hb in
+      same-bits (2 ^ m) (shuffled (2 ^ m) b (2 ^ p)) (2 ^ bitXor p b) (shuffled-lt (2 ^ p)) (pow-lt q)
+      (λ i h. go i h (ℕ-discrete i (bitXor p b)))
+    where
+      go : (i : ℕ) → i < 2 ^ m → Dec (i ≡ bitXor p b) → bit i (shuffled (2 ^ m) b (2 ^ p)) ≡ bit i (2 ^ bitXor p b)
+      go i h (yes e) =
+          shuffled-bit (2 ^ p) i h ∙ ap (λ (y : ℕ). bit y (2 ^ p)) (ap (λ (y : ℕ). bitXor y b) e ∙ xor-back p b) ∙ bit-pow-same p
+          ∙ sym (ap (λ (y : ℕ). bit y (2 ^ bitXor p b)) e ∙ bit-pow-same (bitXor p b))
+      go i h (no ne) =
+          shuffled-bit (2 ^ p) i h ∙ bit-pow-other (bitXor i b) p (λ e. ne (sym (xor-back i b) ∙ ap (λ (y : ℕ). bitXor y b) e))
+          ∙ sym (bit-pow-other i (bitXor p b) ne)
+
+  pub shuffled-same : (x y : ℕ) → x < 2 ^ (2 ^ m) → y < 2 ^ (2 ^ m) → shuffled (2 ^ m) b x ≡ shuffled (2 ^ m) b y → x ≡ y
+  shuffled-same x y hx hy e =
+      same-bits (2 ^ m) x y hx hy
+      (λ i l. sym (shuffled-moves x i l) ∙ ap (bit (bitXor i b)) e ∙ shuffled-moves y i l)
+
+  pub shuffled-none : shuffled (2 ^ m) b 0 ≡ 0
+  shuffled-none =
+      same-bits (2 ^ m) (shuffled (2 ^ m) b 0) 0 (shuffled-lt 0) (pow-pos (2 ^ m))
+      (λ i l. shuffled-bit 0 i l ∙ bit-none (bitXor i b) ∙ sym (bit-none i))
+
+  -- twice is as before
+  pub shuffled-twice : (x : ℕ) → x < 2 ^ (2 ^ m) → shuffled (2 ^ m) b (shuffled (2 ^ m) b x) ≡ x
+  shuffled-twice x h =
+      same-bits (2 ^ m) (shuffled (2 ^ m) b (shuffled (2 ^ m) b x)) x (shuffled-lt (shuffled (2 ^ m) b x)) h
+      (λ i l. shuffled-bit (shuffled (2 ^ m) b x) i l ∙ shuffled-moves x i l)
