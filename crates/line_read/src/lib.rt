@@ -4,33 +4,15 @@ ghost use mathlib.Core.List.{_++_};
 ghost use Prim.Native.Nat.{_+_, _≤_, min};
 ghost use lib.ListN.{length, take, drop};
 ghost use Rattle.line.specs.Parse as specs;
-ghost use Rattle.line_read.specs.Reads as reads;
+ghost use Rattle.line_read.specs.Reads.{ReadRequest};
 ghost use Rattle.line.specs.Says.{lineTold, askedTold, askedLeaves};
 ghost use Rattle.line.specs.Text.{mostTargets};
 use answers::Refusal;
-use decimal::Number;
 use line::Asked;
 use line::Line;
+use line_take::Fields;
+use line_take::Word;
 use mesh::Mesh;
-
-// What stands next: a number after a space, with the place after it; the line end; or what no line has there.
-enum Field {
-    Item(u64, usize),
-    End,
-    Broken,
-}
-
-// How many numbers there are up to the line end.
-enum Fields {
-    Count(usize),
-    Broken,
-}
-
-// The kind that the first word names, and the place after the word.
-enum Word {
-    Of(u64, usize),
-    Other,
-}
 
 // A kind, and how many targets.
 enum Parsed {
@@ -38,90 +20,15 @@ enum Parsed {
     Nothing,
 }
 
-fn next_field(text: &[u8], at: usize) -> Field
-    ensures { λ r. ⌜ reads.ReadField (now (text .entry)) at r ⌝ }
-{
-    if text.len() <= at {
-        return Field::Broken;
-    }
-    let b = text[at];
-    if b == 10 {
-        return Field::End;
-    }
-    if b != 32 {
-        return Field::Broken;
-    }
-    match decimal::read(text, at + 1) {
-        Number::Got(value, end) => Field::Item(value, end),
-        Number::Bad => Field::Broken,
-    }
-}
-
-// The numbers from a place on, into `out`, which has room for all that there may be.
-fn all_fields(text: &[u8], at: usize, out: &mut [u64]) -> Fields
-    requires { ⌜ at ≤ length (now text) ⌝ }
-    ensures { λ r. ⌜ reads.ReadFields (now (out .exit)) r (specs.fields (length (now (out .entry))) (reads.nothing) (drop at (now (text .entry)))) ⌝ }
-{
-    let mut i = at;
-    let mut n: usize = 0;
-    while i < text.len() {
-        match next_field(text, i) {
-            Field::End => {
-                return Fields::Count(n);
-            }
-            Field::Broken => {
-                return Fields::Broken;
-            }
-            Field::Item(value, end) => {
-                if out.len() <= n {
-                    return Fields::Broken;
-                }
-                out[n] = value;
-                n += 1;
-                i = end;
-            }
-        }
-    }
-    Fields::Broken
-}
-
-fn begins(text: &[u8], word: &[u8]) -> bool
-    ensures { λ r. ⌜ r ≡ specs.begins (now (word .entry)) (now (text .entry)) ⌝ }
-{
-    if text.len() < word.len() {
-        return false;
-    }
-    let mut i: usize = 0;
-    while i < word.len() {
-        if text[i] != word[i] {
-            return false;
-        }
-        i += 1;
-    }
-    true
-}
-
-fn first_word(text: &[u8]) -> Word
-    ensures { λ r. ⌜ reads.ReadWord (now (text .entry)) r ⌝ }
-{
-    if begins(text, b"cube") {
-        return Word::Of(Mesh::CUBE, 4);
-    }
-    if begins(text, b"two") {
-        return Word::Of(Mesh::TWO, 3);
-    }
-    Word::Other
-}
-
 // The request of a line, its numbers into `numbers`: size, source, then the targets.
 fn parse(text: &[u8], numbers: &mut [u64]) -> Parsed
     requires { ⌜ length (now numbers) ≡ mostTargets + 2 ⌝ }
-    ensures { λ r. ⌜ reads.ReadRequest (now (numbers .exit)) r (specs.parse (now (text .entry))) ⌝ }
+    ensures { λ r. ⌜ ReadRequest (now (numbers .exit)) r (specs.parse (now (text .entry))) ⌝ }
 {
-    let Word::Of(kind, at) = first_word(text) else {
+    let Word::Of(kind, at) = line_take::first_word(text) else {
         return Parsed::Nothing;
     };
-    let Fields::Count(k) = all_fields(text, at, numbers) else {
+    let Fields::Count(k) = line_take::all_fields(text, at, numbers) else {
         return Parsed::Nothing;
     };
     if k < 2 {

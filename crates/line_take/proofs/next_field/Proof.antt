@@ -1,8 +1,8 @@
--- `line_read::next_field` meets its contract, by the byte that stands next. Assumes nothing.
-use Rattle.line_read.specs.Reads.{field-past, field-ends, field-breaks, field-number, field-no-number}
+-- `line_take::next_field` meets its contract, by the byte that stands next. Assumes nothing.
+use Rattle.line_take.specs.Reads.{field-past, field-ends, field-breaks, field-number, field-no-number}
 use borrow.Author.Needs.{needs}
-use Rattle.line_read.proofs.next_field.Statement.{statement}
-use Rattle.line_read.proofs.next_field.Tie as tie
+use Rattle.line_take.proofs.next_field.Statement.{statement}
+use Rattle.line_take.proofs.next_field.Tie as tie
 
 returns : tie.Need-returns
 returns c = field-past _ _ (c .if1 .taken)

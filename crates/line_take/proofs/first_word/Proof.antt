@@ -1,9 +1,9 @@
--- `line_read::first_word` meets its contract, by the word that the text begins with. Assumes nothing.
+-- `line_take::first_word` meets its contract, by the word that the text begins with. Assumes nothing.
 use mathlib.Core.Path.{sym, _∙_}
-use Rattle.line_read.specs.Reads.{word-cube, word-two, word-other}
+use Rattle.line_take.specs.Reads.{word-cube, word-two, word-other}
 use borrow.Author.Needs.{needs}
-use Rattle.line_read.proofs.first_word.Statement.{statement}
-use Rattle.line_read.proofs.first_word.Tie as tie
+use Rattle.line_take.proofs.first_word.Statement.{statement}
+use Rattle.line_take.proofs.first_word.Tie as tie
 
 slice-aggregate-begins : tie.Need-slice-aggregate-begins
 slice-aggregate-begins c = search needs

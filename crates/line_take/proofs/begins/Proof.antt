@@ -1,10 +1,10 @@
--- `line_read::begins` meets its contract: the invariant is that all before a place is the same (`Matching`). Assumes nothing.
+-- `line_take::begins` meets its contract: the invariant is that all before a place is the same (`Matching`). Assumes nothing.
 use Prim.Native.Nat.{_-_}
 use lib.ListN.{length}
-use Rattle.line_read.specs.Reads.{Matching, shorter, matching-start, matching-more, matching-not, matching-all}
+use Rattle.line_take.specs.Reads.{Matching, shorter, matching-start, matching-more, matching-not, matching-all}
 use borrow.Author.Needs.{needs}
-use Rattle.line_read.proofs.begins.Statement.{statement}
-use Rattle.line_read.proofs.begins.Tie as tie
+use Rattle.line_take.proofs.begins.Statement.{statement}
+use Rattle.line_take.proofs.begins.Tie as tie
 
 abbrev Inv-loop : tie.InvT-loop
 Inv-loop text word i₀ i = Matching word text i

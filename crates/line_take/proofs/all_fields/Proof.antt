@@ -1,11 +1,11 @@
--- `line_read::all_fields` meets its contract: the invariant is that the rest of the text is read to the same end (`Listing`). Assumes nothing.
+-- `line_take::all_fields` meets its contract: the invariant is that the rest of the text is read to the same end (`Listing`). Assumes nothing.
 use native.Mathlib.Omega.{arith}
 use Prim.Native.Nat.{_-_}
 use lib.ListN.{length}
-use Rattle.line_read.specs.Reads.{Listing, as-field, listing-start, listing-ends, listing-breaks, listing-full, listing-more, listing-past}
+use Rattle.line_take.specs.Reads.{Listing, as-field, listing-start, listing-ends, listing-breaks, listing-full, listing-more, listing-past}
 use borrow.Author.Needs.{needs}
-use Rattle.line_read.proofs.all_fields.Statement.{statement}
-use Rattle.line_read.proofs.all_fields.Tie as tie
+use Rattle.line_take.proofs.all_fields.Statement.{statement}
+use Rattle.line_take.proofs.all_fields.Tie as tie
 
 abbrev Inv-loop : tie.InvT-loop
 Inv-loop text at out₀ i₀ n₀ out i n = Listing text at out₀ out i n

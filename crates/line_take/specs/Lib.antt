@@ -1,0 +1,2 @@
+-- The parts of a request line, as they are taken.
+pub mod Reads
