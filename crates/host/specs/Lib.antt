@@ -3,6 +3,5 @@ pub mod Says
 pub mod Needs
 pub mod Stepping
 pub mod Planning
-pub mod Shapes
 pub mod Unique
 pub mod Trips

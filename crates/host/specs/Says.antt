@@ -15,8 +15,18 @@ use Rattle.paths.specs.Mesh.{Mesh, width}
 use Rattle.paths.specs.Fan.{Fan}
 use Rattle.mesh.specs.Kinds.{Kind, kindOf, meshOf}
 use Rattle.mesh.specs.Says.{pairAgainst, requestFaultsIn}
-use Rattle.sheet.specs.Format.{HEAD, relaysAt}
-use Rattle.sheet_write.specs.Says.{bytes}
+use Rattle.sheet.specs.Format.{HEAD, relaysAt, kindAt, sizeAt, sourceAt, countAt}
+use Rattle.sheet_write.specs.Says.{bytes, writeAgainst, sheet, Wrote}
+use Rattle.sheet.specs.Says.{tellWritten, tellRead}
+use Rattle.sheet.specs.declared.Written.{Written}
+use Rattle.sheet.specs.declared.Reading.{Reading}
+use Rattle.sheet_read.specs.Says.{readsAgainst, Read}
+use Rattle.paths.specs.Whole.{Failed}
+use Rattle.survivors.specs.Says.{survivorsTold, Survived}
+use Rattle.survivors.specs.declared.Tally.{Tally}
+use Rattle.shapes.specs.Shapes.{tallyIn, writtenIn, readingIn}
+use Rattle.shapes.specs.declared.GustAnswer.{GustAnswer}
+use Rattle.shapes.specs.declared.GustReading.{GustReading}
 
 -- number * 256 + place
 abbrev pub codeOf : Option Refusal → ℕ
@@ -86,3 +96,20 @@ pub record Planned (o : Option Refusal) (kind size s : ℕ) (targets out : List 
   pub told : r ≡ codeOf o
   pub answered : o ≡ none → Answered kind size s targets out out₁
   pub refused : (why : Refusal) → o ≡ some why → out₁ ≡ out
+
+-- ---- the calls that fill slices: what is told, and the slices as the library's routine leaves them
+
+pub record SurvivedIn (K : Kind) (n s : ℕ) (targets places counts : List ℕ) (fails : Failed) (ends hops wholes : List ℕ) (r : GustAnswer) (ends₁ hops₁ wholes₁ : List ℕ) : Type 0 where
+  pub told : r ≡ tallyIn (survivorsTold K n s targets places counts fails ends hops wholes)
+  pub tally : Tally
+  pub left : Survived K n s targets places counts fails ends hops wholes tally ends₁ hops₁ wholes₁
+
+pub record WroteIn (kind size s : ℕ) (targets places counts out : List ℕ) (r : GustAnswer) (out₁ : List ℕ) : Type 0 where
+  pub told : r ≡ writtenIn (tellWritten (writeAgainst kind size s targets places counts out) (length (sheet kind size s targets places counts out)))
+  pub written : Written
+  pub left : Wrote kind size s targets places counts out written out₁
+
+pub record ReadIn (l places counts targets : List ℕ) (r : GustReading) (places₁ counts₁ targets₁ : List ℕ) : Type 0 where
+  pub told : r ≡ readingIn (tellRead (readsAgainst l places counts targets) (kindAt l) (sizeAt l) (sourceAt l) (countAt l))
+  pub reading : Reading
+  pub left : Read l places counts targets reading places₁ counts₁ targets₁

@@ -7,10 +7,9 @@ use mathlib.Core.Option.{Option, some}
 use Rattle.answers.specs.declared.Refusal.{Refusal}
 use Rattle.paths.specs.Whole.{Failed}
 use Rattle.mesh.specs.Kinds.{Kind}
-use Rattle.host.specs.Says.{Stepped, Planned}
-use Rattle.host.specs.Shapes.{SurvivedIn, WroteIn, ReadIn}
-use Rattle.host.specs.declared.shapes.GustAnswer.{GustAnswer}
-use Rattle.host.specs.declared.shapes.GustReading.{GustReading}
+use Rattle.host.specs.Says.{Stepped, Planned, SurvivedIn, WroteIn, ReadIn}
+use Rattle.shapes.specs.declared.GustAnswer.{GustAnswer}
+use Rattle.shapes.specs.declared.GustReading.{GustReading}
 
 pub stepped-unique : {K : Kind} {n s t : ℕ} {out : List ℕ} {r q : ℕ} {out₁ out₂ : List ℕ} → Stepped K n s t out r out₁ → Stepped K n s t out q out₂ → (r ≡ q) × (out₁ ≡ out₂)
 stepped-unique a b = (a .told ∙ sym (b .told), a .held ∙ sym (b .held))

@@ -2,7 +2,6 @@
 mod calls;
 mod plan;
 mod routines;
-mod shapes;
 
 pub use calls::gust_next_hop;
 pub use calls::gust_plan;
@@ -14,7 +13,3 @@ pub use routines::gust_read_sheet;
 pub use routines::gust_route;
 pub use routines::gust_survivors;
 pub use routines::gust_write_sheet;
-pub use shapes::GustAnswer;
-pub use shapes::GustFacts;
-pub use shapes::GustReading;
-pub use shapes::GustVerdict;

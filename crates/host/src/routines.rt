@@ -5,33 +5,23 @@ ghost use Rattle.mesh.specs.Kinds.{kindOf};
 ghost use Rattle.mesh.specs.Says.{linkedTold, distanceTold, routeTold, routeLeaves};
 ghost use Rattle.paths.specs.Whole.{failed};
 ghost use Rattle.judge.specs.Says.{judgeTold};
-ghost use Rattle.host.specs.Shapes as specs;
-use crate::shapes;
-use crate::shapes::GustAnswer;
-use crate::shapes::GustFacts;
-use crate::shapes::GustReading;
-use crate::shapes::GustVerdict;
+ghost use Rattle.shapes.specs.Shapes as specs;
+ghost use Rattle.host.specs.Says.{SurvivedIn, WroteIn, ReadIn};
 use mesh::Mesh;
+use shapes::GustAnswer;
+use shapes::GustFacts;
+use shapes::GustReading;
+use shapes::GustVerdict;
 
 // The facts of a size: of kind 2 and size 3 there are 2,048 relays with 4 links each, the longest path has 42 hops and takes 43 places. Refuses with 1.
 #[no_mangle]
 pub extern "C" fn gust_facts(kind: u64, size: u64) -> GustFacts
     ensures { λ r. ⌜ r ≡ specs.factsIn (kindOf kind) size ⌝ }
 {
-    let mesh = Mesh {
+    shapes::of_facts(Mesh {
         kind: kind,
         size: size,
-    };
-    let relays = mesh.relays();
-    GustFacts {
-        number: relays.number(),
-        path: 0,
-        place: relays.place() as u64,
-        relays: relays.value(),
-        links: mesh.links().value(),
-        longest: mesh.longest().value(),
-        places: mesh.places().value(),
-    }
+    })
 }
 
 // `mesh::linked`: the value is 1 for yes.
@@ -125,7 +115,7 @@ pub extern "C" fn gust_survivors(
     hops: &mut [u64],
     wholes: &mut [u64],
 ) -> GustAnswer
-    ensures { λ r. ⌜ specs.SurvivedIn (kindOf kind) size source (now (targets .entry)) (now (places .entry)) (now (counts .entry)) (failed (now (stopped .entry))) (now (ends .entry)) (now (hops .entry)) (now (wholes .entry)) r (now (ends .exit)) (now (hops .exit)) (now (wholes .exit)) ⌝ }
+    ensures { λ r. ⌜ SurvivedIn (kindOf kind) size source (now (targets .entry)) (now (places .entry)) (now (counts .entry)) (failed (now (stopped .entry))) (now (ends .entry)) (now (hops .entry)) (now (wholes .entry)) r (now (ends .exit)) (now (hops .exit)) (now (wholes .exit)) ⌝ }
 {
     shapes::of_tally(survivors::survivors(
         Mesh {
@@ -154,7 +144,7 @@ pub extern "C" fn gust_write_sheet(
     counts: &[u64],
     out: &mut [u8],
 ) -> GustAnswer
-    ensures { λ r. ⌜ specs.WroteIn kind size source (now (targets .entry)) (now (places .entry)) (now (counts .entry)) (now (out .entry)) r (now (out .exit)) ⌝ }
+    ensures { λ r. ⌜ WroteIn kind size source (now (targets .entry)) (now (places .entry)) (now (counts .entry)) (now (out .entry)) r (now (out .exit)) ⌝ }
 {
     shapes::of_written(sheet_write::write(
         Mesh {
@@ -177,7 +167,7 @@ pub extern "C" fn gust_read_sheet(
     counts: &mut [u64],
     targets: &mut [u64],
 ) -> GustReading
-    ensures { λ r. ⌜ specs.ReadIn (now (bytes .entry)) (now (places .entry)) (now (counts .entry)) (now (targets .entry)) r (now (places .exit)) (now (counts .exit)) (now (targets .exit)) ⌝ }
+    ensures { λ r. ⌜ ReadIn (now (bytes .entry)) (now (places .entry)) (now (counts .entry)) (now (targets .entry)) r (now (places .exit)) (now (counts .exit)) (now (targets .exit)) ⌝ }
 {
     shapes::of_reading(sheet_read::read(bytes, places, counts, targets))
 }

@@ -1,12 +1,12 @@
 -- `host::routines::gust_distance` meets its contract: what the distance tells. Assumes nothing.
 use mathlib.Core.Path.{ap, _∙_}
-use Rattle.host.specs.Shapes.{answerIn}
+use Rattle.shapes.specs.Shapes.{answerIn}
 use borrow.Author.Needs.{needs}
 use Rattle.host.proofs.routines.gust_distance.Statement.{statement}
 use Rattle.host.proofs.routines.gust_distance.Tie as tie
 use Rattle.host.proofs.routines.gust_distance.Reads as reads
 use Rattle.host.proofs.routines.gust_distance.Lts as lts
-use Rattle.host.proofs.shapes.of_answer.Reads as of-answer-reads
+use Rattle.shapes.proofs.of_answer.Reads as of-answer-reads
 use Rattle.mesh.proofs.distance.Reads as distance-reads
 
 distance-requires : tie.Need-distance-requires

@@ -1,12 +1,12 @@
 -- `host::routines::gust_judge` meets its contract: what the judge tells. Assumes nothing.
 use mathlib.Core.Path.{ap, _∙_}
-use Rattle.host.specs.Shapes.{verdictIn}
+use Rattle.shapes.specs.Shapes.{verdictIn}
 use borrow.Author.Needs.{needs}
 use Rattle.host.proofs.routines.gust_judge.Statement.{statement}
 use Rattle.host.proofs.routines.gust_judge.Tie as tie
 use Rattle.host.proofs.routines.gust_judge.Reads as reads
 use Rattle.host.proofs.routines.gust_judge.Lts as lts
-use Rattle.host.proofs.shapes.of_verdict.Reads as of-verdict-reads
+use Rattle.shapes.proofs.of_verdict.Reads as of-verdict-reads
 use Rattle.judge.proofs.judge.Reads as judge-reads
 
 judge-requires : tie.Need-judge-requires

@@ -1,12 +1,12 @@
 -- `host::routines::gust_linked` meets its contract: what is told of links. Assumes nothing.
 use mathlib.Core.Path.{ap, _∙_}
-use Rattle.host.specs.Shapes.{yesNoIn}
+use Rattle.shapes.specs.Shapes.{yesNoIn}
 use borrow.Author.Needs.{needs}
 use Rattle.host.proofs.routines.gust_linked.Statement.{statement}
 use Rattle.host.proofs.routines.gust_linked.Tie as tie
 use Rattle.host.proofs.routines.gust_linked.Reads as reads
 use Rattle.host.proofs.routines.gust_linked.Lts as lts
-use Rattle.host.proofs.shapes.of_yes_no.Reads as of-yes-no-reads
+use Rattle.shapes.proofs.of_yes_no.Reads as of-yes-no-reads
 use Rattle.mesh.proofs.linked.Reads as linked-reads
 
 linked-requires : tie.Need-linked-requires

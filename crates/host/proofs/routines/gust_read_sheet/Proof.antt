@@ -1,12 +1,12 @@
 -- `host::routines::gust_read_sheet` meets its contract: what the reader tells and leaves. Assumes nothing.
 use mathlib.Core.Path.{ap, _∙_}
-use Rattle.host.specs.Shapes.{readingIn}
+use Rattle.shapes.specs.Shapes.{readingIn}
 use borrow.Author.Needs.{needs}
 use Rattle.host.proofs.routines.gust_read_sheet.Statement.{statement}
 use Rattle.host.proofs.routines.gust_read_sheet.Tie as tie
 use Rattle.host.proofs.routines.gust_read_sheet.Reads as reads
 use Rattle.host.proofs.routines.gust_read_sheet.Lts as lts
-use Rattle.host.proofs.shapes.of_reading.Reads as of-reading-reads
+use Rattle.shapes.proofs.of_reading.Reads as of-reading-reads
 use Rattle.sheet_read.proofs.read.Reads as read-reads
 
 read-requires : tie.Need-read-requires

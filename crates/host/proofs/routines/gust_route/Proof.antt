@@ -1,12 +1,12 @@
 -- `host::routines::gust_route` meets its contract: what the route tells and leaves. Assumes nothing.
 use mathlib.Core.Path.{ap, _∙_}
-use Rattle.host.specs.Shapes.{answerIn}
+use Rattle.shapes.specs.Shapes.{answerIn}
 use borrow.Author.Needs.{needs}
 use Rattle.host.proofs.routines.gust_route.Statement.{statement}
 use Rattle.host.proofs.routines.gust_route.Tie as tie
 use Rattle.host.proofs.routines.gust_route.Reads as reads
 use Rattle.host.proofs.routines.gust_route.Lts as lts
-use Rattle.host.proofs.shapes.of_answer.Reads as of-answer-reads
+use Rattle.shapes.proofs.of_answer.Reads as of-answer-reads
 use Rattle.mesh.proofs.route.Reads as route-reads
 
 route-requires : tie.Need-route-requires

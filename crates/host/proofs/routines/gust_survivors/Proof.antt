@@ -1,12 +1,12 @@
 -- `host::routines::gust_survivors` meets its contract: what survivors tells and leaves. Assumes nothing.
 use mathlib.Core.Path.{ap, _∙_}
-use Rattle.host.specs.Shapes.{tallyIn}
+use Rattle.shapes.specs.Shapes.{tallyIn}
 use borrow.Author.Needs.{needs}
 use Rattle.host.proofs.routines.gust_survivors.Statement.{statement}
 use Rattle.host.proofs.routines.gust_survivors.Tie as tie
 use Rattle.host.proofs.routines.gust_survivors.Reads as reads
 use Rattle.host.proofs.routines.gust_survivors.Lts as lts
-use Rattle.host.proofs.shapes.of_tally.Reads as of-tally-reads
+use Rattle.shapes.proofs.of_tally.Reads as of-tally-reads
 use Rattle.survivors.proofs.survivors.Reads as survivors-reads
 
 survivors-requires : tie.Need-survivors-requires

@@ -1,12 +1,12 @@
 -- `host::routines::gust_write_sheet` meets its contract: what the writer tells and leaves. Assumes nothing.
 use mathlib.Core.Path.{ap, _∙_}
-use Rattle.host.specs.Shapes.{writtenIn}
+use Rattle.shapes.specs.Shapes.{writtenIn}
 use borrow.Author.Needs.{needs}
 use Rattle.host.proofs.routines.gust_write_sheet.Statement.{statement}
 use Rattle.host.proofs.routines.gust_write_sheet.Tie as tie
 use Rattle.host.proofs.routines.gust_write_sheet.Reads as reads
 use Rattle.host.proofs.routines.gust_write_sheet.Lts as lts
-use Rattle.host.proofs.shapes.of_written.Reads as of-written-reads
+use Rattle.shapes.proofs.of_written.Reads as of-written-reads
 use Rattle.sheet_write.proofs.write.Reads as write-reads
 
 write-requires : tie.Need-write-requires

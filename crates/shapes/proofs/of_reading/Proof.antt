@@ -1,10 +1,10 @@
--- `host::shapes::of_reading` meets its contract: field by field. Assumes nothing.
-use Rattle.host.specs.Shapes.{reading-same}
+-- `shapes::of_reading` meets its contract: field by field. Assumes nothing.
+use Rattle.shapes.specs.Shapes.{reading-same}
 use borrow.Author.Needs.{needs}
-use Rattle.host.proofs.shapes.of_reading.Statement.{statement}
-use Rattle.host.proofs.shapes.of_reading.Tie as tie
-use Rattle.host.proofs.shapes.of_reading.Reads as reads
-use Rattle.host.proofs.shapes.of_reading.Lts as lts
+use Rattle.shapes.proofs.of_reading.Statement.{statement}
+use Rattle.shapes.proofs.of_reading.Tie as tie
+use Rattle.shapes.proofs.of_reading.Reads as reads
+use Rattle.shapes.proofs.of_reading.Lts as lts
 use Rattle.sheet.proofs.Reading.mesh.Reads as mesh-reads
 use Rattle.sheet.proofs.Reading.number.Reads as number-reads
 use Rattle.sheet.proofs.Reading.path.Reads as path-reads

@@ -1,11 +1,11 @@
--- `host::shapes::of_written` meets its contract: field by field. Assumes nothing.
+-- `shapes::of_written` meets its contract: field by field. Assumes nothing.
 use mathlib.Core.Path.{refl}
-use Rattle.host.specs.Shapes.{answer-same}
+use Rattle.shapes.specs.Shapes.{answer-same}
 use borrow.Author.Needs.{needs}
-use Rattle.host.proofs.shapes.of_written.Statement.{statement}
-use Rattle.host.proofs.shapes.of_written.Tie as tie
-use Rattle.host.proofs.shapes.of_written.Reads as reads
-use Rattle.host.proofs.shapes.of_written.Lts as lts
+use Rattle.shapes.proofs.of_written.Statement.{statement}
+use Rattle.shapes.proofs.of_written.Tie as tie
+use Rattle.shapes.proofs.of_written.Reads as reads
+use Rattle.shapes.proofs.of_written.Lts as lts
 use Rattle.sheet.proofs.Written.bytes.Reads as bytes-reads
 use Rattle.sheet.proofs.Written.number.Reads as number-reads
 

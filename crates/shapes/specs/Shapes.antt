@@ -1,31 +1,20 @@
--- What the structs that C is given say, by what the library's answers tell; and what the calls that fill slices promise with them. The laws that put
--- a struct together. Assumes nothing.
+-- What the structs that C is given say, by what the library's answers tell. The laws that put a struct together. Assumes nothing.
 use Prim.Native.Nat.{ℕ}
 use mathlib.Core.Path.{_≡_, ap, ap₂, _∙_}
 use mathlib.Core.Bool.{Bool}
-use mathlib.Core.List.{List}
-use lib.ListN.{length}
 use Rattle.scan.specs.Scan.{pick}
 use Rattle.answers.specs.Told as told
 use Rattle.answers.specs.Told.{Told}
 use Rattle.paths.specs.Mesh.{width}
-use Rattle.paths.specs.Whole.{Failed}
 use Rattle.mesh.specs.Kinds.{Kind}
 use Rattle.mesh.specs.Says.{factTold}
 use Rattle.judge.specs.Says.{Ruling, numberOf, pathOf, placeOf}
 use Rattle.survivors.specs.Tally.{Tallied, rulingOf, wholeOf}
-use Rattle.survivors.specs.Says.{survivorsTold, Survived}
-use Rattle.survivors.specs.declared.Tally.{Tally}
-use Rattle.sheet.specs.Format.{kindAt, sizeAt, sourceAt, countAt}
-use Rattle.sheet.specs.Says.{WriteTold, writtenNumber, writtenBytes, tellWritten, ReadTold, readNumber, readPath, readKind, readSize, readSource, readCount, tellRead}
-use Rattle.sheet_write.specs.Says.{writeAgainst, sheet, Wrote}
-use Rattle.sheet.specs.declared.Written.{Written}
-use Rattle.sheet.specs.declared.Reading.{Reading}
-use Rattle.sheet_read.specs.Says.{readsAgainst, Read}
-use Rattle.host.specs.declared.shapes.GustAnswer.{GustAnswer}
-use Rattle.host.specs.declared.shapes.GustFacts.{GustFacts}
-use Rattle.host.specs.declared.shapes.GustVerdict.{GustVerdict}
-use Rattle.host.specs.declared.shapes.GustReading.{GustReading}
+use Rattle.sheet.specs.Says.{WriteTold, writtenNumber, writtenBytes, ReadTold, readNumber, readPath, readKind, readSize, readSource, readCount}
+use Rattle.shapes.specs.declared.GustAnswer.{GustAnswer}
+use Rattle.shapes.specs.declared.GustFacts.{GustFacts}
+use Rattle.shapes.specs.declared.GustVerdict.{GustVerdict}
+use Rattle.shapes.specs.declared.GustReading.{GustReading}
 
 -- ---- the structs
 
@@ -67,23 +56,6 @@ readingIn t = record {
   source = readSource t;
   paths = readCount t;
 }
-
--- ---- the calls that fill slices: what is told, and the slices as the library's routine leaves them
-
-pub record SurvivedIn (K : Kind) (n s : ℕ) (targets places counts : List ℕ) (fails : Failed) (ends hops wholes : List ℕ) (r : GustAnswer) (ends₁ hops₁ wholes₁ : List ℕ) : Type 0 where
-  pub told : r ≡ tallyIn (survivorsTold K n s targets places counts fails ends hops wholes)
-  pub tally : Tally
-  pub left : Survived K n s targets places counts fails ends hops wholes tally ends₁ hops₁ wholes₁
-
-pub record WroteIn (kind size s : ℕ) (targets places counts out : List ℕ) (r : GustAnswer) (out₁ : List ℕ) : Type 0 where
-  pub told : r ≡ writtenIn (tellWritten (writeAgainst kind size s targets places counts out) (length (sheet kind size s targets places counts out)))
-  pub written : Written
-  pub left : Wrote kind size s targets places counts out written out₁
-
-pub record ReadIn (l places counts targets : List ℕ) (r : GustReading) (places₁ counts₁ targets₁ : List ℕ) : Type 0 where
-  pub told : r ≡ readingIn (tellRead (readsAgainst l places counts targets) (kindAt l) (sizeAt l) (sourceAt l) (countAt l))
-  pub reading : Reading
-  pub left : Read l places counts targets reading places₁ counts₁ targets₁
 
 -- ---- structs put together
 

@@ -1,11 +1,11 @@
--- `host::shapes::of_answer` meets its contract: field by field. Assumes nothing.
+-- `shapes::of_answer` meets its contract: field by field. Assumes nothing.
 use mathlib.Core.Path.{refl}
-use Rattle.host.specs.Shapes.{answer-same}
+use Rattle.shapes.specs.Shapes.{answer-same}
 use borrow.Author.Needs.{needs}
-use Rattle.host.proofs.shapes.of_answer.Statement.{statement}
-use Rattle.host.proofs.shapes.of_answer.Tie as tie
-use Rattle.host.proofs.shapes.of_answer.Reads as reads
-use Rattle.host.proofs.shapes.of_answer.Lts as lts
+use Rattle.shapes.proofs.of_answer.Statement.{statement}
+use Rattle.shapes.proofs.of_answer.Tie as tie
+use Rattle.shapes.proofs.of_answer.Reads as reads
+use Rattle.shapes.proofs.of_answer.Lts as lts
 use Rattle.answers.proofs.Answer.number.Reads as number-reads
 use Rattle.answers.proofs.Answer.place.Reads as place-reads
 use Rattle.answers.proofs.Answer.value.Reads as value-reads

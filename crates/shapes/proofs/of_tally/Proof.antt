@@ -1,10 +1,10 @@
--- `host::shapes::of_tally` meets its contract: field by field. Assumes nothing.
-use Rattle.host.specs.Shapes.{answer-same}
+-- `shapes::of_tally` meets its contract: field by field. Assumes nothing.
+use Rattle.shapes.specs.Shapes.{answer-same}
 use borrow.Author.Needs.{needs}
-use Rattle.host.proofs.shapes.of_tally.Statement.{statement}
-use Rattle.host.proofs.shapes.of_tally.Tie as tie
-use Rattle.host.proofs.shapes.of_tally.Reads as reads
-use Rattle.host.proofs.shapes.of_tally.Lts as lts
+use Rattle.shapes.proofs.of_tally.Statement.{statement}
+use Rattle.shapes.proofs.of_tally.Tie as tie
+use Rattle.shapes.proofs.of_tally.Reads as reads
+use Rattle.shapes.proofs.of_tally.Lts as lts
 use Rattle.survivors.proofs.Tally.number.Reads as number-reads
 use Rattle.survivors.proofs.Tally.path.Reads as path-reads
 use Rattle.survivors.proofs.Tally.place.Reads as place-reads

@@ -2,13 +2,15 @@
 ghost use mathlib.Core.Path.{_≡_};
 ghost use Rattle.scan.specs.Scan.{pick};
 ghost use Rattle.answers.specs.Told.{answerTold, yesNoTold};
+ghost use Rattle.mesh.specs.Kinds.{kindOf};
 ghost use Rattle.judge.specs.Says.{verdictTold};
 ghost use Rattle.survivors.specs.Tally.{tallyTold};
 ghost use Rattle.sheet.specs.Says.{writtenTold, readingTold};
-ghost use Rattle.host.specs.Shapes as specs;
+ghost use Rattle.shapes.specs.Shapes as specs;
 use answers::Answer;
 use answers::YesNo;
 use judge::Verdict;
+use mesh::Mesh;
 use sheet::Reading;
 use sheet::Written;
 use survivors::Tally;
@@ -59,6 +61,21 @@ fn flag(b: bool) -> u64
     ensures { λ r. ⌜ r ≡ pick b 1 0 ⌝ }
 {
     if b { 1 } else { 0 }
+}
+
+pub fn of_facts(mesh: Mesh) -> GustFacts
+    ensures { λ r. ⌜ r ≡ specs.factsIn (kindOf (mesh .kind)) (mesh .size) ⌝ }
+{
+    let relays = mesh.relays();
+    GustFacts {
+        number: relays.number(),
+        path: 0,
+        place: relays.place() as u64,
+        relays: relays.value(),
+        links: mesh.links().value(),
+        longest: mesh.longest().value(),
+        places: mesh.places().value(),
+    }
 }
 
 pub fn of_answer(a: Answer) -> GustAnswer

@@ -1,10 +1,10 @@
--- `host::shapes::of_verdict` meets its contract: field by field. Assumes nothing.
-use Rattle.host.specs.Shapes.{verdict-same}
+-- `shapes::of_verdict` meets its contract: field by field. Assumes nothing.
+use Rattle.shapes.specs.Shapes.{verdict-same}
 use borrow.Author.Needs.{needs}
-use Rattle.host.proofs.shapes.of_verdict.Statement.{statement}
-use Rattle.host.proofs.shapes.of_verdict.Tie as tie
-use Rattle.host.proofs.shapes.of_verdict.Reads as reads
-use Rattle.host.proofs.shapes.of_verdict.Lts as lts
+use Rattle.shapes.proofs.of_verdict.Statement.{statement}
+use Rattle.shapes.proofs.of_verdict.Tie as tie
+use Rattle.shapes.proofs.of_verdict.Reads as reads
+use Rattle.shapes.proofs.of_verdict.Lts as lts
 use Rattle.judge.proofs.Verdict.number.Reads as number-reads
 use Rattle.judge.proofs.Verdict.path.Reads as path-reads
 use Rattle.judge.proofs.Verdict.place.Reads as place-reads

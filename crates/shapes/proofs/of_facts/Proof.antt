@@ -1,12 +1,12 @@
--- `host::routines::gust_facts` meets its contract: each fact by itself. Assumes nothing.
+-- `shapes::of_facts` meets its contract: each fact by itself. Assumes nothing.
 use mathlib.Core.Path.{ap, _∙_}
 use Rattle.answers.specs.Told.{numberOf, placeOf, valueOf}
-use Rattle.host.specs.Shapes.{facts-same}
+use Rattle.shapes.specs.Shapes.{facts-same}
 use borrow.Author.Needs.{needs}
-use Rattle.host.proofs.routines.gust_facts.Statement.{statement}
-use Rattle.host.proofs.routines.gust_facts.Tie as tie
-use Rattle.host.proofs.routines.gust_facts.Reads as reads
-use Rattle.host.proofs.routines.gust_facts.Lts as lts
+use Rattle.shapes.proofs.of_facts.Statement.{statement}
+use Rattle.shapes.proofs.of_facts.Tie as tie
+use Rattle.shapes.proofs.of_facts.Reads as reads
+use Rattle.shapes.proofs.of_facts.Lts as lts
 use Rattle.answers.proofs.Answer.number.Reads as number-reads
 use Rattle.answers.proofs.Answer.place.Reads as place-reads
 use Rattle.answers.proofs.Answer.value.Reads as value-reads
@@ -48,8 +48,8 @@ value-requires-4 c κs = search needs
 returns : tie.Need-returns
 returns c = facts-same (c .before .before .before .before .before .before .before .before .number .ensures ∙ ap numberOf (c .before .before .before .before .before .before .before .before .before .relays .ensures)) (c .before .before .before .before .before .before .before .place .ensures ∙ ap placeOf (c .before .before .before .before .before .before .before .before .before .relays .ensures)) (c .before .before .before .before .before .before .value .ensures ∙ ap valueOf (c .before .before .before .before .before .before .before .before .before .relays .ensures)) (c .before .before .before .before .value2 .ensures ∙ ap valueOf (c .before .before .before .before .before .links .ensures)) (c .before .before .value3 .ensures ∙ ap valueOf (c .before .before .before .longest .ensures)) (c .value4 .ensures ∙ ap valueOf (c .before .places .ensures))
 
-pub gust-facts-spec : {M : Type 1} → statement M
-gust-facts-spec =
+pub of-facts-spec : {M : Type 1} → statement M
+of-facts-spec =
     tie.close
     (tie.spec
     relays-requires

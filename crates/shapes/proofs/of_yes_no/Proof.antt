@@ -1,18 +1,18 @@
--- `host::shapes::of_yes_no` meets its contract: field by field. Assumes nothing.
+-- `shapes::of_yes_no` meets its contract: field by field. Assumes nothing.
 use mathlib.Core.Path.{refl, ap, _∙_}
 use mathlib.Core.Bool.{Bool}
 use Prim.Native.Nat.{ℕ}
 use Rattle.scan.specs.Scan.{pick}
-use Rattle.host.specs.Shapes.{answer-same}
+use Rattle.shapes.specs.Shapes.{answer-same}
 use borrow.Author.Needs.{needs}
-use Rattle.host.proofs.shapes.of_yes_no.Statement.{statement}
-use Rattle.host.proofs.shapes.of_yes_no.Tie as tie
-use Rattle.host.proofs.shapes.of_yes_no.Reads as reads
-use Rattle.host.proofs.shapes.of_yes_no.Lts as lts
+use Rattle.shapes.proofs.of_yes_no.Statement.{statement}
+use Rattle.shapes.proofs.of_yes_no.Tie as tie
+use Rattle.shapes.proofs.of_yes_no.Reads as reads
+use Rattle.shapes.proofs.of_yes_no.Lts as lts
 use Rattle.answers.proofs.YesNo.number.Reads as number-reads
 use Rattle.answers.proofs.YesNo.place.Reads as place-reads
 use Rattle.answers.proofs.YesNo.yes.Reads as yes-reads
-use Rattle.host.proofs.shapes.flag.Reads as flag-reads
+use Rattle.shapes.proofs.flag.Reads as flag-reads
 
 number-requires : tie.Need-number-requires
 number-requires c κs = search needs

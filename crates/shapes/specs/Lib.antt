@@ -1,0 +1,2 @@
+-- What the structs that C is given say.
+pub mod Shapes
