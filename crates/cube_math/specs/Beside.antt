@@ -6,9 +6,9 @@ use mathlib.Core.Logic.{_⊎_, inl, inr, ⊎-elim, _≢_}
 use mathlib.Core.List.{List, [], _∷_}
 use native.Mathlib.Omega.{arith}
 use Rattle.bits.specs.Bit.{bit, flip}
-use Rattle.bits.specs.Laws.{clash}
+use Rattle.bits.specs.Laws.{clash, flip-moves}
 use Rattle.cube_math.specs.Doors.{In, Way, Doors}
-use Rattle.cube_math.specs.Paths.{flip-moves, bit-not-one, not-cons, in-cast, in-list}
+use Rattle.cube_math.specs.Paths.{bit-not-one, not-cons, in-cast, in-list}
 
 -- the target t stands behind the open door `dim`, which is then shut, and l is the path there
 pub record Direct (free s shut more t : ℕ) (l : List ℕ) : Type 0 where

@@ -6,9 +6,9 @@ use mathlib.Core.List.{List}
 use native.Mathlib.Omega.{arith}
 use lib.Count.{ones}
 use Rattle.bits.specs.Bit.{bit, flip}
-use Rattle.bits.specs.Laws.{bit-lt, bit-none, flip-other, ones-clear, ones-none, ones-zero}
+use Rattle.bits.specs.Laws.{bit-lt, bit-none, flip-other, ones-clear, ones-none, ones-zero, same-or}
 use Rattle.cube_math.specs.Doors.{Door, Doors}
-use Rattle.cube_math.specs.Paths.{same-or, in-cast, in-first}
+use Rattle.cube_math.specs.Paths.{in-cast, in-first}
 use Rattle.cube_math.specs.Masks.{mask-ind, less, bit-less}
 use Rattle.cube_math.specs.Choose.{cleared, gather, ones-less}
 

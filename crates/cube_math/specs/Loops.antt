@@ -8,9 +8,9 @@ use native.Mathlib.Omega.{arith}
 use lib.Bits.{bitOr}
 use lib.Count.{ones}
 use Rattle.bits.specs.Bit.{bit, flip}
-use Rattle.bits.specs.Laws.{bit-none, bit-pow-same, bit-pow-other, clash, flip-other, ones-clear, ones-zero, ones-pow}
+use Rattle.bits.specs.Laws.{bit-none, bit-pow-same, bit-pow-other, clash, flip-other, ones-clear, ones-zero, ones-pow, same-or, flip-eq}
 use Rattle.cube_math.specs.Doors.{Door, Doors}
-use Rattle.cube_math.specs.Paths.{same-or, flip-eq, bit-not-one}
+use Rattle.cube_math.specs.Paths.{bit-not-one}
 use Rattle.cube_math.specs.Masks.{less}
 use Rattle.cube_math.specs.Beside.{Direct, Begun, begin}
 use Rattle.cube_math.specs.Split.{Sides, Brought, Parts, join}

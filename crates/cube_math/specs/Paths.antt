@@ -1,37 +1,14 @@
--- Laws of flips (`flip-turns`, `flip-eq`: relays beside one another in different dimensions are different) and of walks (`walk-side`: a walk
--- along dimensions other than b stays on its side of b). Assumes nothing.
-use Prim.Native.Nat.{ℕ, _^_}
+-- Laws of walks (`walk-side`: a walk along dimensions other than b stays on its side of b) and of lists. Assumes nothing.
+use Prim.Native.Nat.{ℕ}
 use mathlib.Core.Path.{_≡_, refl, sym, ap, _∙_, subst}
 use mathlib.Core.Logic.{_⊎_, inl, inr, ⊎-elim, _≢_}
 use mathlib.Core.List.{List, [], _∷_}
-use native.Mathlib.Nat.{ne-of-lt, ne-of-gt}
-use native.Mathlib.Omega.{arith}
-use lib.Bits.{bitXor, xor-comm}
-use Rattle.bits.specs.Bit.{bit, flip}
-use Rattle.bits.specs.Laws.{bit-cases, bit-lt, clash, lt-or, flip-same, flip-other, xor-assoc}
+use Rattle.bits.specs.Bit.{bit}
+use Rattle.bits.specs.Laws.{bit-cases, clash, flip-other}
 use Rattle.cube_math.specs.Doors.{In, Walk}
 
-pub same-or : (i j : ℕ) → (i ≡ j) ⊎ (i ≢ j)
-same-or i j = ⊎-elim (λ l. inr (ne-of-lt l)) (λ r. ⊎-elim inl (λ l. inr (ne-of-gt l)) r) (lt-or i j)
+-- ---- bits
 
--- ---- flips
-
-pub flip-comm : (x i j : ℕ) → flip (flip x i) j ≡ flip (flip x j) i
-unfolding flip
-flip-comm x i j = xor-assoc x (2 ^ i) (2 ^ j) ∙ ap (bitXor x) (xor-comm (2 ^ i) (2 ^ j)) ∙ sym (xor-assoc x (2 ^ j) (2 ^ i))
-
--- a flip changes its bit
-pub flip-turns : (x i : ℕ) → bit i (flip x i) ≢ bit i x
-flip-turns x i e = omega (arith, flip-same x i, bit-lt i x)
-
-pub flip-moves : (x i : ℕ) → flip x i ≢ x
-flip-moves x i e = flip-turns x i (ap (bit i) e)
-
--- two relays that differ in one dimension are different
-pub flip-eq : (x i j : ℕ) → flip x i ≡ flip x j → i ≡ j
-flip-eq x i j e = ⊎-elim (λ z. z) (λ ne. absurd (flip-turns x i (ap (bit i) e ∙ flip-other x j i ne))) (same-or i j)
-
--- bits that are not equal
 pub bit-not-one : (i x : ℕ) → bit i x ≢ 1 → bit i x ≡ 0
 bit-not-one i x ne = ⊎-elim (λ z. z) (λ o. absurd (ne o)) (bit-cases i x)
 

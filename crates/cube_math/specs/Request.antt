@@ -7,9 +7,8 @@ use mathlib.Core.List.{List}
 use native.Mathlib.Omega.{arith}
 use lib.Count.{ones}
 use Rattle.bits.specs.Bit.{bit, flip}
-use Rattle.bits.specs.Laws.{bit-lt, flip-same, flip-other}
+use Rattle.bits.specs.Laws.{bit-lt, flip-same, flip-other, same-or, flip-turns, flip-moves}
 use Rattle.cube_math.specs.Doors.{Way, Doors}
-use Rattle.cube_math.specs.Paths.{same-or, flip-turns, flip-moves}
 
 -- the targets of the indices m are different relays of the cube, none of them s, and there are doors enough
 pub record Request (free s shut m : ℕ) (to : ℕ → ℕ) : Type 0 where

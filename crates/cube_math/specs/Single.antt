@@ -9,9 +9,9 @@ use lib.ListN.{length}
 use lib.Bits.{bitXor, differ}
 use lib.Count.{ones}
 use Rattle.bits.specs.Bit.{bit, flip}
-use Rattle.bits.specs.Laws.{bit-lt, bit-none, bit-xor, clash, flip-other, flip-flip, flip-xor, ones-clear, ones-none, ones-zero, xor-zero-eq}
+use Rattle.bits.specs.Laws.{bit-lt, bit-none, bit-xor, clash, flip-other, flip-flip, flip-xor, ones-clear, ones-none, ones-zero, xor-zero-eq, same-or, flip-turns}
 use Rattle.cube_math.specs.Doors.{In, Fresh, Walk, Way, Doors}
-use Rattle.cube_math.specs.Paths.{same-or, flip-turns, off-on}
+use Rattle.cube_math.specs.Paths.{off-on}
 use Rattle.cube_math.specs.Masks.{some-bit, ones-mono}
 
 -- in how many bits x and y differ

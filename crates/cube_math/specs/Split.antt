@@ -6,9 +6,9 @@ use mathlib.Core.Logic.{_⊎_, inl, inr, ⊎-elim, _≢_}
 use mathlib.Core.List.{List, [], _∷_}
 use native.Mathlib.Omega.{arith}
 use Rattle.bits.specs.Bit.{bit, flip}
-use Rattle.bits.specs.Laws.{clash, flip-other, flip-flip}
+use Rattle.bits.specs.Laws.{clash, flip-other, flip-flip, same-or, flip-comm, flip-turns, flip-moves, flip-eq}
 use Rattle.cube_math.specs.Doors.{In, Walk, Door, Way, Doors}
-use Rattle.cube_math.specs.Paths.{same-or, flip-comm, flip-turns, flip-moves, flip-eq, bit-not-one, off-on, walk-wider, walk-side, not-cons, in-cast, in-list, in-first}
+use Rattle.cube_math.specs.Paths.{bit-not-one, off-on, walk-wider, walk-side, not-cons, in-cast, in-list, in-first}
 
 -- what is free and shut on the two sides of b: `rest` is `free` less b, and what is shut stays shut but for b
 pub record Sides (free rest b shut shutF shutN : ℕ) : Type 0 where

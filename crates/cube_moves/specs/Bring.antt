@@ -8,9 +8,9 @@ use lib.Bits.{bitXor, bitOr, xor-comm}
 use lib.Count.{ones}
 use lib.ListN.{length}
 use Rattle.bits.specs.Bit.{bit, flip}
-use Rattle.bits.specs.Laws.{bit-none, flip-flip, ones-clear}
+use Rattle.bits.specs.Laws.{bit-none, flip-flip, ones-clear, flip-comm}
 use Rattle.cube_math.specs.Doors.{Doors}
-use Rattle.cube_math.specs.Paths.{flip-comm, bit-not-one}
+use Rattle.cube_math.specs.Paths.{bit-not-one}
 use Rattle.cube_math.specs.Masks.{less}
 use Rattle.cube_math.specs.Choose.{cleared, ones-some}
 use Rattle.cube_math.specs.Loops.{Plus, plus-or, Bringing, bring-start, bring-straight, bring-turn, bring-home}

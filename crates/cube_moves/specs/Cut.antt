@@ -9,8 +9,8 @@ use lib.Bits.{bitXor, bitAnd, bitOr}
 use lib.Count.{ones}
 use lib.ListN.{set}
 use Rattle.bits.specs.Bit.{bit, flip, Lowest}
-use Rattle.bits.specs.Laws.{bit-none, clash, flip-same, flip-other, ones-clear, ones-zero, xor-zero-eq}
-use Rattle.cube_math.specs.Paths.{same-or, bit-not-one}
+use Rattle.bits.specs.Laws.{bit-none, clash, flip-same, flip-other, ones-clear, ones-zero, xor-zero-eq, same-or}
+use Rattle.cube_math.specs.Paths.{bit-not-one}
 use Rattle.cube_math.specs.Masks.{less, less-some}
 use Rattle.cube_math.specs.Single.{differs-bit}
 use Rattle.cube_math.specs.Choose.{cleared, Chosen, less-on}

@@ -7,7 +7,7 @@ use mathlib.Core.List.{List, [], _∷_}
 use native.Mathlib.Omega.{arith}
 use lib.ListN.{length, getD}
 use Rattle.bits.specs.Bit.{bit, flip}
-use Rattle.bits.specs.Laws.{lt-or-le}
+use Rattle.bits.specs.Laws.{lt-or-le, flip-turns}
 use Rattle.paths.specs.Mesh.{width}
 use Rattle.paths.specs.Fan.{relay, hops, Fan}
 use Rattle.paths.specs.Lists.{Chain, ahead, ahead-cons}
@@ -17,7 +17,6 @@ use Rattle.cube.specs.Links.{flip-linked}
 use Rattle.cube_math.specs.Doors.{Walk, Door, Doors}
 use Rattle.cube_math.specs.Masks.{less, bit-less}
 use Rattle.cube_math.specs.Choose.{less-on}
-use Rattle.cube_math.specs.Paths.{flip-turns}
 use Rattle.cube_math.specs.Plain.{bit-full, bit-high, full-below}
 use Rattle.cube_plan.specs.Says.{Through}
 

@@ -12,7 +12,7 @@ use lib.Dec.{ltb}
 use lib.ListN.{length, getD}
 use borrow.Author.Tests.{ltb-false}
 use Rattle.bits.specs.Bit.{bit, flip}
-use Rattle.bits.specs.Laws.{bit-lt, flip-lt}
+use Rattle.bits.specs.Laws.{bit-lt, flip-lt, flip-moves}
 use Rattle.scan.specs.Scan.{pick}
 use Rattle.scan.specs.Laws.{true-false}
 use Rattle.answers.specs.Order.{first, refuse}
@@ -29,7 +29,6 @@ use Rattle.paths.specs.Lists as lists
 use Rattle.cube.specs.Cube.{linked, cube}
 use Rattle.cube.specs.Links.{linked-flip}
 use Rattle.cube_math.specs.Doors.{Walk, Way}
-use Rattle.cube_math.specs.Paths.{flip-moves}
 use Rattle.cube_math.specs.Masks.{less, bit-less}
 use Rattle.cube_math.specs.Plain.{bit-full, full-below}
 use Rattle.cube_split.specs.Fan.{Sought, Given}

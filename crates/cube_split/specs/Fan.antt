@@ -9,12 +9,11 @@ use lib.Count.{ones, ones-ones}
 use lib.ListN.{length, getD, set, replicate, List·getD-eq-default}
 use lib.Seq.{sets, getD-set-same, getD-set-other}
 use Rattle.bits.specs.Bit.{bit}
-use Rattle.bits.specs.Laws.{lt-or-le}
+use Rattle.bits.specs.Laws.{lt-or-le, same-or}
 use Rattle.scan.specs.Runs.{filled-in, filled-out}
 use Rattle.paths.specs.Fan as fan
 use Rattle.paths.specs.Lists.{ahead, ahead-at, ahead-length, Laid}
 use Rattle.cube_math.specs.Doors.{Doors}
-use Rattle.cube_math.specs.Paths.{same-or}
 use Rattle.cube_math.specs.Request.{doors-same, request-same}
 use Rattle.cube_math.specs.Plain.{bit-full, full-below, cube-request}
 use Rattle.cube_rows.specs.Grid.{row-room, count, hops, hops-length, hops-same, target, lone-target, Sets, only-rest}

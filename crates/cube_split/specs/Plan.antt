@@ -9,9 +9,9 @@ use lib.Bits.{bitOr}
 use lib.Count.{ones}
 use lib.ListN.{length}
 use Rattle.bits.specs.Bit.{bit, flip}
-use Rattle.bits.specs.Laws.{bit-none, clash, flip-other, ones-clear, ones-none, ones-zero}
+use Rattle.bits.specs.Laws.{bit-none, clash, flip-other, ones-clear, ones-none, ones-zero, same-or}
 use Rattle.cube_math.specs.Doors.{Doors}
-use Rattle.cube_math.specs.Paths.{same-or, off-on, bit-not-one}
+use Rattle.cube_math.specs.Paths.{off-on, bit-not-one}
 use Rattle.cube_math.specs.Masks.{less}
 use Rattle.cube_math.specs.Single.{alone, nothing}
 use Rattle.cube_math.specs.Split.{Sides}

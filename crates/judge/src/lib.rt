@@ -10,6 +10,7 @@ ghost use Rattle.mesh.specs.Says.{short};
 ghost use Rattle.judge.specs.Says as specs;
 use answers::Checked;
 use answers::Refusal;
+use judge_rows::Mode;
 use judge_rows::Rules;
 use mesh::Mesh;
 
@@ -152,6 +153,7 @@ pub fn judge_with(
     }
     let rules = Rules {
         mesh: mesh,
+        mode: Mode::Fan,
         width: mesh::places_in(mesh) as usize,
     };
     let ended = found::first_finding(rules, source, targets, places, counts);

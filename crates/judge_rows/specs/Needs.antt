@@ -37,10 +37,11 @@ pub record Held (w places : ℕ) (counts : List ℕ) (j : ℕ) : Type 0 where
   pub counted : j < length counts
   pub row : Row w places j (hops counts j)
 
--- each path before path i is held, and path i with its h hops lies within the places
+-- each path before path i is held, and path i has its count and with h hops lies within the places
 pub record After (r : Rules) (places : ℕ) (counts : List ℕ) (i h : ℕ) : Type 0 where
   pub ruled : Ruled r
   pub held : (j : ℕ) → j < i → Held (r .width) places counts j
+  pub counted : i < length counts
   pub row : Row (r .width) places i h
 
 -- each path before path i is held, and path i has its count and its places

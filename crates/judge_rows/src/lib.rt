@@ -1,6 +1,6 @@
 // One path against the rules: the first place at which something is wrong, for each thing that is looked for. Inner functions of the judge.
 ghost use mathlib.Core.Path.{_≡_};
-ghost use Prim.Native.Nat.{ℕ, _+_, _-_, _*_, _<_};
+ghost use Prim.Native.Nat.{ℕ, _+_, _-_, _*_, _≤_, _<_};
 ghost use lib.ListN.{length};
 ghost use Rattle.scan.specs.Scan.{seek, any, spotOf};
 ghost use Rattle.paths.specs.Fan as fan;
@@ -11,9 +11,16 @@ use mesh::Mesh;
 use paths::FILLER;
 use scan::Spot;
 
-// What paths are judged by: the mesh, and the places that a path takes.
+// What a set of paths is to be: a fan, with paths from one source to each of its targets, or a bundle, with as many paths as links to one.
+pub enum Mode {
+    Fan,
+    Bundle,
+}
+
+// What paths are judged by: the mesh, what they are to be, and the places that a path takes.
 pub struct Rules {
     pub mesh: Mesh,
+    pub mode: Mode,
     pub width: usize,
 }
 
@@ -81,7 +88,39 @@ fn on_earlier(w: usize, places: &[u64], counts: &[u64], x: u64, i: usize) -> boo
     false
 }
 
-// 24: whether the relay at place p stands earlier on this path or, the source at place 0 excepted, on an earlier one.
+// Whether the relay at place p of a path of h hops may stand on earlier paths too: the source at place 0, and of a bundle the target at its end.
+fn excepted(rules: Rules, h: usize, p: usize) -> bool
+    ensures { λ r. ⌜ r ≡ rulesOf rules .excepted h p ⌝ }
+{
+    if p == 0 {
+        return true;
+    }
+    let mode = rules.mode;
+    match mode {
+        Mode::Fan => false,
+        Mode::Bundle => p == h,
+    }
+}
+
+// Whether path i, of h hops, and an earlier one are twins, which is told at place p: of a bundle they are where both are the bare link.
+fn twinned(rules: Rules, counts: &[u64], i: usize, h: usize, p: usize) -> bool
+    requires { ⌜ (i ≤ length (now counts)) × (h ≡ fan.hops (now counts) i) ⌝ }
+    ensures { λ r. ⌜ r ≡ finding.twinned (rulesOf rules) (now (counts .entry)) i p ⌝ }
+{
+    let mode = rules.mode;
+    if let Mode::Fan = mode {
+        return false;
+    }
+    if p != 1 {
+        return false;
+    }
+    if h != 1 {
+        return false;
+    }
+    scan::among(counts, 0, i, 1)
+}
+
+// 24: whether the relay at place p stands earlier on this path or, the excepted places left out, on an earlier one, or is a twin's.
 fn seen(rules: Rules, places: &[u64], counts: &[u64], i: usize, p: usize) -> bool
     requires { ⌜ After rules (length (now places)) (now counts) i p ⌝ }
     ensures { λ r. ⌜ r ≡ finding.seen (rulesOf rules) (now (places .entry)) (now (counts .entry)) i p ⌝ }
@@ -91,8 +130,9 @@ fn seen(rules: Rules, places: &[u64], counts: &[u64], i: usize, p: usize) -> boo
     if scan::among(places, i * w, p, x) {
         return true;
     }
-    if p == 0 {
-        return false;
+    let h = counts[i] as usize;
+    if excepted(rules, h, p) {
+        return twinned(rules, counts, i, h, p);
     }
     on_earlier(w, places, counts, x, i)
 }

@@ -4,17 +4,21 @@ use Prim.Native.Nat.{ℕ}
 use mathlib.Core.Bool.{Bool, true, false}
 use mathlib.Core.List.{List, []}
 use lib.Dec.{eqb, ltb}
+use Rattle.bits.specs.Bit.{flip}
 use Rattle.scan.specs.Scan.{pick}
 use Rattle.paths.specs.Mesh.{Mesh}
 use Rattle.cube.specs.Cube as cube
 use Rattle.cube.specs.Route as plain
 use Rattle.two_parts.specs.Two as two
+use Rattle.two_parts.specs.Near as links
 use Rattle.two.specs.Next as walk
 
 pub record Kind : Type 0 where
   -- which sizes there are, and the mesh of a size
   pub known : ℕ → Bool
   pub mesh : ℕ → Mesh
+  -- the relay at the other end of link i of u: links in the order of the bits, lowest first, in the two-level mesh the slot's and then the block's
+  pub near : (size u i : ℕ) → ℕ
   -- the relay after u on the way to t; the plain route from s to t, with its hops
   pub next : (size u t : ℕ) → ℕ
   pub hops : (size s t : ℕ) → ℕ
@@ -26,6 +30,7 @@ abbrev pub cubes : Kind
 cubes = record {
   known = cube.known;
   mesh = cube.cube;
+  near = λ n. flip;
   next = λ n. plain.next;
   hops = λ n. plain.hops;
   route = λ n. plain.route;
@@ -36,6 +41,7 @@ abbrev pub twos : Kind
 twos = record {
   known = two.known;
   mesh = two.two;
+  near = links.near;
   next = walk.next;
   hops = walk.hops;
   route = walk.route;
@@ -47,6 +53,7 @@ abbrev pub others : Kind
 others = record {
   known = λ n. false;
   mesh = λ n. record { relays = 0; links = 0; longest = 0; linked = λ u v. false };
+  near = λ n u i. 0;
   next = λ n u t. 0;
   hops = λ n s t. 0;
   route = λ n s t. [];

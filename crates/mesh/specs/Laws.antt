@@ -1,7 +1,7 @@
 -- Laws of the kinds. Assumes nothing.
 --
 -- What holds of the cubes holds of kind 1, and so for each kind (`as-cube`, `as-two`, `as-other`); a mesh that there is is of one of them
--- (`known-case`): a further kind is one more case there.
+-- (`known-case`): a further kind is one more case there. Its links are told one by one (`known-near`).
 use Prim.Native.Nat.{ℕ}
 use mathlib.Core.Path.{_≡_, refl, sym, ap, ap₂, _∙_, subst}
 use mathlib.Core.Bool.{Bool, true, false, not}
@@ -19,9 +19,12 @@ use Rattle.answers.specs.Pairs.{size-known, size-unknown}
 use Rattle.answers.specs.Told.{told, tell}
 use Rattle.answers.specs.declared.Refusal.the-variants.{UnknownSize}
 use Rattle.cube.specs.Cube as cube
+use Rattle.cube.specs.Links as plain
 use Rattle.two_parts.specs.Two as two
+use Rattle.two_parts.specs.Near as parts
 use Rattle.paths.specs.Ways.{distance}
-use Rattle.mesh.specs.Kinds.{Kind, cubes, twos, others, CUBE, TWO, kindOf, known}
+use Rattle.paths.specs.Links.{Links}
+use Rattle.mesh.specs.Kinds.{Kind, cubes, twos, others, CUBE, TWO, kindOf, known, meshOf}
 use Rattle.mesh.specs.Says.{requestAgainst, distanceTold}
 
 -- ---- a kind by its number
@@ -62,6 +65,10 @@ module _ (k n : ℕ) (h : known k n ≡ true) where
       go (yes e) d = subst (P k) (as-cube (λ K. K) e) (subst (λ (x : ℕ). P x cubes) (sym e) (c (known-cube e)))
       go (no ne) (yes e) = subst (P k) (as-two (λ K. K) ne e) (subst (λ (x : ℕ). P x twos) (sym e) (t (known-two e)))
       go (no ne) (no nt) = absurd (no-other ne nt)
+
+  -- its links are told one by one
+  pub known-near : Links (meshOf k n) (kindOf k .near n)
+  known-near = known-case (λ k K. Links (K .mesh n) (K .near n)) (λ c. plain.links n) (λ t. parts.links n)
 
 -- ---- a request
 

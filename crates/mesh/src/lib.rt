@@ -5,6 +5,7 @@ mod requested;
 pub use pairs::distance;
 pub use pairs::joined;
 pub use pairs::linked;
+pub use pairs::near;
 pub use pairs::next_hop;
 pub use pairs::route;
 pub use requested::request;

@@ -1,6 +1,7 @@
 // A source and a target: links, next hop, distance, plain route.
 ghost use mathlib.Core.Path.{_≡_};
 ghost use mathlib.Core.Bool.{true};
+ghost use Prim.Native.Nat.{_<_};
 ghost use Rattle.scan.specs.Scan.{pick};
 ghost use Rattle.answers.specs.Told.{told, answerTold, yesNoTold};
 ghost use Rattle.cube.specs.Cube as cubes;
@@ -91,4 +92,20 @@ pub fn joined(mesh: Mesh, u: u64, v: u64) -> bool
         return two_parts::link(Order(mesh.size), u, v);
     }
     false
+}
+
+// The relay at the other end of link i of a relay, for i below its links: in the mesh of kind 2 and size 2 those of 27 lead to 26, 25 and 59.
+pub fn near(mesh: Mesh, u: u64, i: u64) -> u64
+    requires { ⌜ specs.known (mesh .kind) (mesh .size) ≡ true ⌝ }
+    requires { ⌜ u < specs.meshOf (mesh .kind) (mesh .size) .relays ⌝ }
+    requires { ⌜ i < specs.meshOf (mesh .kind) (mesh .size) .links ⌝ }
+    ensures { λ r. ⌜ r ≡ specs.kindOf (mesh .kind) .near (mesh .size) u i ⌝ }
+{
+    if mesh.kind == Mesh::CUBE {
+        return bits::flip(u, i as u32);
+    }
+    if mesh.kind == Mesh::TWO {
+        return two_parts::near(Order(mesh.size), u, i);
+    }
+    0
 }

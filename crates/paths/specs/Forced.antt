@@ -51,7 +51,7 @@ pub onward : {m : Mesh} {v u t w : ℕ} (l : List ℕ) → At m v u t l → u �
 onward l a ne k = ⊎-elim (λ z. absurd (a .fresh .0 (inr (rw (z .1) (inl refl))))) (λ z. z) (first l (a .chain) (a .fresh .1) ne k)
 
 -- a path's target stands on it
-ends-in : (m : Mesh) (u t x : ℕ) (l : List ℕ) → Chain m u t (x ∷ l) → In t (x ∷ l)
+pub ends-in : (m : Mesh) (u t x : ℕ) (l : List ℕ) → Chain m u t (x ∷ l) → In t (x ∷ l)
 ends-in m u t x [] c = inl (sym (c .2))
 ends-in m u t x (y ∷ l) c = inr (ends-in m x t y l (c .2))
 

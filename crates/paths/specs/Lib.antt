@@ -18,3 +18,6 @@ pub mod Walks
 pub mod Walked
 pub mod Ends
 pub mod Ways
+pub mod Links
+pub mod Bundle
+pub mod Bundles

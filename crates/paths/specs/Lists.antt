@@ -87,61 +87,73 @@ chain-end m u t (v ∷ l) d c = chain-end m v t l d (c .2)
 
 -- ---- the lists laid out
 
-module _ (m : Mesh) (s : ℕ) (targets places counts : List ℕ) (paths : ℕ → List ℕ) (f : Lists m s targets paths)
-    (a : Laid (width m) s (length targets) paths places counts) where
+-- k paths along links, each to an end of its own
+module _ (m : Mesh) (s k : ℕ) (end : ℕ → ℕ) (places counts : List ℕ) (paths : ℕ → List ℕ) (chain : (i : ℕ) → i < k → Chain m s (end i) (paths i))
+    (short : (i : ℕ) → i < k → length (paths i) ≤ m .longest) (fresh : (i : ℕ) → i < k → Fresh (s ∷ paths i)) (a : Laid (width m) s k paths places counts) where
   abbrev place : ℕ → ℕ → ℕ
   place i p = relay (width m) places i p
 
   -- a place of a path, and one after its start
-  laid-at : (i p : ℕ) → i < length targets → p ≤ hops counts i → place i p ≡ getD (s ∷ paths i) p filler
-  laid-at i p h g = a .at i p h (omega (arith, a .count i h, f .short i h))
+  pub placed-at : (i p : ℕ) → i < k → p ≤ hops counts i → relay (width m) places i p ≡ getD (s ∷ paths i) p filler
+  placed-at i p h g = a .at i p h (omega (arith, a .count i h, short i h))
 
-  laid-after : (i p : ℕ) → i < length targets → p < hops counts i → place i (p + 1) ≡ getD (paths i) p filler
-  laid-after i p h g = laid-at i (p + 1) h (omega arith) ∙ rw (add-one p)
+  placed-after : (i p : ℕ) → i < k → p < hops counts i → place i (p + 1) ≡ getD (paths i) p filler
+  placed-after i p h g = placed-at i (p + 1) h (omega arith) ∙ rw (add-one p)
 
-  laid-path : (i : ℕ) → i < length targets → Path m s (getD targets i 0) places counts i
-  laid-path i h = record {
-    short = omega (arith, a .count i h, f .short i h);
-    starts = laid-at i 0 h (omega arith);
+  pub placed-path : (i : ℕ) → i < k → Path m s (end i) places counts i
+  placed-path i h = record {
+    short = omega (arith, a .count i h, short i h);
+    starts = placed-at i 0 h (omega arith);
     linked = λ p g.
-        let c = chain-at m s (getD targets i 0) (paths i) filler p (f .chain i h) (omega (arith, a .count i h)) in (
-          subst (λ (y : ℕ). y < m .relays) (sym (laid-after i p h g)) (c .0),
-          ap (λ (y : ℕ). m .linked y (place i (p + 1))) (laid-at i p h (omega arith))
-              ∙ ap (m .linked (getD (s ∷ paths i) p filler)) (laid-after i p h g) ∙ c .1,
+        let c = chain-at m s (end i) (paths i) filler p (chain i h) (omega (arith, a .count i h)) in (
+          subst (λ (y : ℕ). y < m .relays) (sym (placed-after i p h g)) (c .0),
+          ap (λ (y : ℕ). m .linked y (place i (p + 1))) (placed-at i p h (omega arith))
+              ∙ ap (m .linked (getD (s ∷ paths i) p filler)) (placed-after i p h g) ∙ c .1,
         );
-    ends = laid-at i (hops counts i) h (omega arith) ∙ ap (λ (p : ℕ). getD (s ∷ paths i) p filler) (a .count i h)
-        ∙ chain-end m s (getD targets i 0) (paths i) filler (f .chain i h);
+    ends = placed-at i (hops counts i) h (omega arith) ∙ ap (λ (p : ℕ). getD (s ∷ paths i) p filler) (a .count i h)
+        ∙ chain-end m s (end i) (paths i) filler (chain i h);
     filled = λ p g r. a .at i p h (omega arith) ∙ List·getD-eq-default (s ∷ paths i) filler {n = p} (omega (arith, a .count i h));
   }
 
   -- a relay after the start of a path stands in its list
-  pub laid-in : (i p : ℕ) → i < length targets → suc p ≤ hops counts i → In (place i (suc p)) (paths i)
-  laid-in i p h g =
-      subst (λ (y : ℕ). In y (paths i)) (sym (laid-at i (suc p) h g)) (in-at (paths i) filler p (omega (arith, a .count i h)))
+  pub placed-in : (i p : ℕ) → i < k → suc p ≤ hops counts i → In (relay (width m) places i (suc p)) (paths i)
+  placed-in i p h g =
+      subst (λ (y : ℕ). In y (paths i)) (sym (placed-at i (suc p) h g)) (in-at (paths i) filler p (omega (arith, a .count i h)))
 
-  laid-one : (i p q : ℕ) → i < length targets → p ≤ hops counts i → q ≤ hops counts i → place i p ≡ place i q → p ≡ q
-  laid-one i p q h g r e =
-      fresh-at (s ∷ paths i) filler p q (f .fresh i h) (omega (arith, a .count i h)) (omega (arith, a .count i h))
-      (sym (laid-at i p h g) ∙ e ∙ laid-at i q h r)
+  pub placed-one : (i p q : ℕ) → i < k → p ≤ hops counts i → q ≤ hops counts i → relay (width m) places i p ≡ relay (width m) places i q → p ≡ q
+  placed-one i p q h g r e =
+      fresh-at (s ∷ paths i) filler p q (fresh i h) (omega (arith, a .count i h)) (omega (arith, a .count i h))
+      (sym (placed-at i p h g) ∙ e ∙ placed-at i q h r)
+
+module _ (m : Mesh) (s : ℕ) (targets places counts : List ℕ) (paths : ℕ → List ℕ) (f : Lists m s targets paths)
+    (a : Laid (width m) s (length targets) paths places counts) where
+  abbrev spot : ℕ → ℕ → ℕ
+  spot i p = relay (width m) places i p
+
+  start : (i : ℕ) → i < length targets → spot i 0 ≡ s
+  start i h = placed-at m s (length targets) (λ j. getD targets j 0) places counts paths (f .chain) (f .short) (f .fresh) a i 0 h (omega arith)
+
+  pub laid-in : (i p : ℕ) → i < length targets → suc p ≤ hops counts i → In (relay (width m) places i (suc p)) (paths i)
+  laid-in = placed-in m s (length targets) (λ j. getD targets j 0) places counts paths (f .chain) (f .short) (f .fresh) a
 
   laid-two : (i j p q : ℕ) → i ≢ j → i < length targets → j < length targets → p ≤ hops counts i → q ≤ hops counts j
-      → place i p ≡ place j q → (p ≡ 0) × (q ≡ 0)
+      → spot i p ≡ spot j q → (p ≡ 0) × (q ≡ 0)
   laid-two i j zero zero ne h g a b e = (refl, refl)
   laid-two i j zero (suc q) ne h g r b e =
-      absurd (f .fresh j g .0 (subst (λ (y : ℕ). In y (paths j)) (sym e ∙ laid-at i 0 h r) (laid-in j q g b)))
+      absurd (f .fresh j g .0 (subst (λ (y : ℕ). In y (paths j)) (sym e ∙ start i h) (laid-in j q g b)))
   laid-two i j (suc p) zero ne h g r b e =
-      absurd (f .fresh i h .0 (subst (λ (y : ℕ). In y (paths i)) (e ∙ laid-at j 0 g b) (laid-in i p h r)))
+      absurd (f .fresh i h .0 (subst (λ (y : ℕ). In y (paths i)) (e ∙ start j g) (laid-in i p h r)))
   laid-two i j (suc p) (suc q) ne h g r b e =
-      absurd (f .apart i j h g ne (place i (suc p)) (laid-in i p h r) (subst (λ (y : ℕ). In y (paths j)) (sym e) (laid-in j q g b)))
+      absurd (f .apart i j h g ne (spot i (suc p)) (laid-in i p h r) (subst (λ (y : ℕ). In y (paths j)) (sym e) (laid-in j q g b)))
 
   pub laid-fan : Fan m s targets places counts
-  laid-fan = record { path = laid-path; apart = λ i j p q h g r b e. go i j p q h g r b e (ℕ-discrete i j) }
+  laid-fan = record { path = placed-path m s (length targets) (λ j. getD targets j 0) places counts paths (f .chain) (f .short) (f .fresh) a; apart = λ i j p q h g r b e. go i j p q h g r b e (ℕ-discrete i j) }
     where
-      go : (i j p q : ℕ) → i < length targets → j < length targets → p ≤ hops counts i → q ≤ hops counts j → place i p ≡ place j q
+      go : (i j p q : ℕ) → i < length targets → j < length targets → p ≤ hops counts i → q ≤ hops counts j → spot i p ≡ spot j q
           → Dec (i ≡ j) → ((i ≡ j) × (p ≡ q)) ⊎ ((p ≡ 0) × (q ≡ 0))
       go i j p q h g r b e (yes z) = inl (
         z,
-        laid-one i p q h r
-            (subst (λ (y : ℕ). q ≤ hops counts y) (sym z) b) (e ∙ ap (λ (y : ℕ). place y q) (sym z)),
+        placed-one m s (length targets) (λ j. getD targets j 0) places counts paths (f .chain) (f .short) (f .fresh) a i p q h r
+            (subst (λ (y : ℕ). q ≤ hops counts y) (sym z) b) (e ∙ ap (λ (y : ℕ). spot y q) (sym z)),
       )
       go i j p q h g r b e (no ne) = inr (laid-two i j p q ne h g r b e)

@@ -12,8 +12,7 @@ use lib.Seq.{getD-set-same, getD-set-other}
 use lib.Bits.{bitOr}
 use Rattle.cube_math.specs.Masks.{at}
 use Rattle.bits.specs.Bit.{bit, flip}
-use Rattle.bits.specs.Laws.{bit-none, clash, flip-other, bit-pow-same, pow-bit, flip-lt}
-use Rattle.cube_math.specs.Paths.{same-or}
+use Rattle.bits.specs.Laws.{bit-none, clash, flip-other, bit-pow-same, pow-bit, flip-lt, same-or}
 use Rattle.cube_math.specs.Choose.{Chosen, cleared, or-on, or-left, or-right}
 use Rattle.two_math.specs.Gates.{Gates, Near, gates-more}
 use Rattle.two_math.specs.Sort.{Behind, Shared}

@@ -10,9 +10,8 @@ use lib.Count.{ones}
 use lib.Dec.{eqb}
 use lib.Bits.{bitOr, bitXor}
 use Rattle.bits.specs.Bit.{bit, flip, Lowest, OneBit}
-use Rattle.bits.specs.Laws.{bit-cases, bit-none, bit-on, bit-off, clash, flip-other, bit-pow-same, pow-bit, ones-clear}
+use Rattle.bits.specs.Laws.{bit-cases, bit-none, bit-on, bit-off, clash, flip-other, bit-pow-same, pow-bit, ones-clear, flip-eq}
 use Rattle.scan.specs.Laws.{true-false}
-use Rattle.cube_math.specs.Paths.{flip-eq}
 use Rattle.cube_math.specs.Masks.{at, less, some-bit}
 use Rattle.cube_math.specs.Choose.{Chosen, Used, cleared, less-on, less-or}
 use Rattle.cube_math.specs.Plain.{bit-full, full-below}

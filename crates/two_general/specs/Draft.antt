@@ -11,9 +11,8 @@ use lib.Pow.{pow-mono}
 use lib.Bits.{bitXor}
 use Rattle.cube_math.specs.Masks.{at}
 use Rattle.bits.specs.Bit.{bit, flip, Lowest}
-use Rattle.bits.specs.Laws.{clash, xor-zero-eq}
+use Rattle.bits.specs.Laws.{clash, xor-zero-eq, flip-moves, flip-eq}
 use Rattle.cube_math.specs.Doors.{Walk, Way, Doors}
-use Rattle.cube_math.specs.Paths.{flip-moves, flip-eq}
 use Rattle.cube_math.specs.Plain.{full-below}
 use Rattle.cube_math.specs.Request.{Request}
 use Rattle.two_write.specs.Row.{hops}

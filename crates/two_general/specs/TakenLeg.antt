@@ -9,9 +9,8 @@ use lib.ListN.{length, getD, take, length-take, length-append}
 use lib.Seq.{take-at}
 use Rattle.cube_math.specs.Masks.{at}
 use Rattle.bits.specs.Bit.{bit, flip}
-use Rattle.bits.specs.Laws.{flip-flip}
+use Rattle.bits.specs.Laws.{flip-flip, flip-eq}
 use Rattle.cube_math.specs.Doors.{In, Way}
-use Rattle.cube_math.specs.Paths.{flip-eq}
 use Rattle.two_write.specs.Row.{hops}
 use Rattle.two_math.specs.Relays.{Relay, in-append}
 use Rattle.two_math.specs.Through.{Crosses}

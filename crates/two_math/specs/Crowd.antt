@@ -6,9 +6,9 @@ use mathlib.Core.List.{List, [], _∷_, _++_}
 use native.Mathlib.Omega.{arith}
 use lib.ListN.{length, length-append}
 use Rattle.bits.specs.Bit.{bit, flip}
-use Rattle.bits.specs.Laws.{flip-flip}
+use Rattle.bits.specs.Laws.{flip-flip, same-or}
 use Rattle.cube_math.specs.Doors.{In, Fresh, Walk, Doors}
-use Rattle.cube_math.specs.Paths.{same-or, not-cons}
+use Rattle.cube_math.specs.Paths.{not-cons}
 use Rattle.cube_math.specs.Plain.{bit-full}
 use Rattle.two_math.specs.Relays.{Relay, in-append, walk-more, fresh-more}
 use Rattle.two_math.specs.Through.{Crosses}

@@ -6,8 +6,7 @@ use native.Mathlib.Omega.{arith}
 use native.Mathlib.Decide.{ℕ-discrete}
 use lib.Count.{ones-ones}
 use Rattle.bits.specs.Bit.{bit, flip}
-use Rattle.bits.specs.Laws.{bit-cases, clash, lt-or, flip-other, flip-flip, ones-clear}
-use Rattle.cube_math.specs.Paths.{same-or, flip-turns, flip-moves, flip-eq}
+use Rattle.bits.specs.Laws.{bit-cases, clash, lt-or, flip-other, flip-flip, ones-clear, same-or, flip-turns, flip-moves, flip-eq}
 use Rattle.cube_math.specs.Masks.{left-over, ones-mono}
 use Rattle.cube_math.specs.Plain.{bit-full, full-below}
 use Rattle.cube_math.specs.Choose.{choose, gather}

@@ -6,9 +6,8 @@ use mathlib.Core.List.{List, [], _∷_, _++_}
 use native.Mathlib.Omega.{arith}
 use lib.Count.{ones, ones-ones}
 use Rattle.bits.specs.Bit.{bit, flip}
-use Rattle.bits.specs.Laws.{bit-none, clash, flip-flip, lt-or-le, ones-zero}
+use Rattle.bits.specs.Laws.{bit-none, clash, flip-flip, lt-or-le, ones-zero, flip-eq}
 use Rattle.cube_math.specs.Doors.{Door}
-use Rattle.cube_math.specs.Paths.{flip-eq}
 use Rattle.cube_math.specs.Plain.{bit-full, bit-high, full-below}
 use Rattle.cube_math.specs.First.{Begins, first-differ}
 use Rattle.cube_math.specs.Request.{Request}

@@ -8,9 +8,9 @@ use lib.ListN.{length, getD, length-append}
 use lib.Bits.{bitXor, bitOr, differ}
 use lib.Count.{ones, ones-ones}
 use Rattle.bits.specs.Bit.{bit, flip, Lowest}
-use Rattle.bits.specs.Laws.{bit-cases, bit-none, bit-xor, differ-self, flip-other, ones-zero, clash, bit-pow-same, bit-pow-other, ones-clear, lt-or-le}
+use Rattle.bits.specs.Laws.{bit-cases, bit-none, bit-xor, differ-self, flip-other, ones-zero, clash, bit-pow-same, bit-pow-other, ones-clear, lt-or-le, same-or}
 use Rattle.cube_math.specs.Doors.{In, Fresh, Walk}
-use Rattle.cube_math.specs.Paths.{same-or, not-cons}
+use Rattle.cube_math.specs.Paths.{not-cons}
 use Rattle.cube_math.specs.Plain.{bit-full, bit-high, full-below}
 use Rattle.cube_math.specs.Single.{rank, rank-less, rank-le}
 use Rattle.cube_math.specs.Choose.{Chosen, Used, cleared, or-on, or-left, or-right}

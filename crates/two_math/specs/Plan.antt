@@ -8,9 +8,9 @@ use native.Mathlib.Numerals.{add-one}
 use native.Mathlib.Omega.{arith}
 use lib.ListN.{length, length-append}
 use Rattle.bits.specs.Bit.{bit, flip}
-use Rattle.bits.specs.Laws.{clash, flip-flip}
+use Rattle.bits.specs.Laws.{clash, flip-flip, same-or, flip-moves}
 use Rattle.cube_math.specs.Doors.{In, Fresh, Walk, Way, Doors}
-use Rattle.cube_math.specs.Paths.{same-or, flip-moves, not-cons, in-cast, in-list}
+use Rattle.cube_math.specs.Paths.{not-cons, in-cast, in-list}
 use Rattle.cube_math.specs.Plain.{bit-full}
 use Rattle.two_math.specs.Relays.{Relay, inside, in-left, fresh-append}
 use Rattle.two_math.specs.Through.{Crosses}

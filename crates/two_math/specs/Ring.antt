@@ -6,8 +6,7 @@ use mathlib.Core.List.{List, [], _∷_}
 use native.Mathlib.Omega.{arith}
 use lib.ListN.{length}
 use Rattle.bits.specs.Bit.{flip}
-use Rattle.bits.specs.Laws.{flip-flip}
-use Rattle.cube_math.specs.Paths.{same-or}
+use Rattle.bits.specs.Laws.{flip-flip, same-or}
 use Rattle.two_math.specs.Relays.{Relay, On, Once, Link, Chain}
 use Rattle.two_math.specs.Assemble.{most, TwoFan}
 use Rattle.two_math.specs.Sort.{Ask}

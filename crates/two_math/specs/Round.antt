@@ -9,9 +9,9 @@ use native.Mathlib.Decide.{ℕ-discrete}
 use lib.ListN.{length, getD, take}
 use lib.Pow.{pow-pos}
 use Rattle.bits.specs.Bit.{flip}
-use Rattle.bits.specs.Laws.{flip-flip}
+use Rattle.bits.specs.Laws.{flip-flip, flip-moves, flip-eq, flip-comm}
 use Rattle.cube_math.specs.Doors.{In, Fresh, Walk, Way, Doors}
-use Rattle.cube_math.specs.Paths.{flip-moves, flip-eq, flip-comm, not-cons}
+use Rattle.cube_math.specs.Paths.{not-cons}
 use Rattle.cube_math.specs.Plain.{bit-full}
 use Rattle.two_math.specs.Relays.{Relay, inside}
 use Rattle.two_math.specs.Through.{Stroll, Crosses}

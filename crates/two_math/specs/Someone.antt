@@ -6,8 +6,8 @@ use mathlib.Core.List.{List, _∷_}
 use native.Mathlib.Omega.{arith}
 use lib.Count.{ones, ones-ones}
 use Rattle.bits.specs.Bit.{bit, flip}
-use Rattle.bits.specs.Laws.{clash, flip-other, ones-clear}
-use Rattle.cube_math.specs.Paths.{same-or, flip-eq, in-cast}
+use Rattle.bits.specs.Laws.{clash, flip-other, ones-clear, same-or, flip-eq}
+use Rattle.cube_math.specs.Paths.{in-cast}
 use Rattle.cube_math.specs.Masks.{ones-mono}
 use Rattle.cube_math.specs.Plain.{bit-full}
 use Rattle.two_math.specs.Relays.{Relay}

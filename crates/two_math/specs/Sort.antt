@@ -8,8 +8,7 @@ use lib.Bits.{bitOr}
 use lib.Count.{ones, ones-ones}
 use lib.Pow.{pow-pos}
 use Rattle.bits.specs.Bit.{bit, flip}
-use Rattle.bits.specs.Laws.{bit-cases, clash}
-use Rattle.cube_math.specs.Paths.{same-or, flip-eq}
+use Rattle.bits.specs.Laws.{bit-cases, clash, same-or, flip-eq}
 use Rattle.cube_math.specs.Masks.{less, ones-mono}
 use Rattle.cube_math.specs.Plain.{bit-full, full-below}
 use Rattle.cube_math.specs.Choose.{Chosen, Used, gather, neighbour, or-on, or-left, or-right, ones-less, less-on, less-or, ones-or}

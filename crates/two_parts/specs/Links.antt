@@ -122,6 +122,12 @@ pub linked-sym : (m u v : ℕ) → linked m u v ≡ linked m v u
 unfolding linked
 linked-sym m u v = joined-sym (blockOf m u) (slotOf m u) (blockOf m v) (slotOf m v)
 
+-- no relay is linked to itself
+pub linked-none : (m u : ℕ) → linked m u u ≡ false
+unfolding linked ones
+linked-none m u =
+    joined-same (blockOf m u) (slotOf m u) (blockOf m u) (slotOf m u) refl ∙ ap (λ (x : ℕ). eqb (ones x) 1) (xor-self (slotOf m u))
+
 -- ---- a link stays in the mesh
 
 pub link-within : (m b p c q : ℕ) → Link m b p c q → b < blocks m → p < slots m → (c < blocks m) × (q < slots m)

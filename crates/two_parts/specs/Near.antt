@@ -4,34 +4,22 @@
 use Prim.Native.Nat.{ℕ, _+_, _-_, _^_, _≤_, _<_}
 use mathlib.Core.Path.{_≡_, sym, ap, ap₂, _∙_}
 use mathlib.Core.Bool.{Bool, true}
-use mathlib.Core.Logic.{_⊎_, inl, inr, _≢_}
+use mathlib.Core.Logic.{_⊎_, inl, inr}
 use native.Mathlib.Omega.{arith}
-use native.Mathlib.Decide.{ℕ-discrete}
 use lib.Dec.{ltb}
 use borrow.Author.Tests.{lt-ltb, le-ltb}
-use Rattle.bits.specs.Bit.{bit, flip}
-use Rattle.bits.specs.Laws.{bit-lt, flip-same, flip-other, flip-lt, lt-or-le}
+use Rattle.bits.specs.Bit.{flip}
+use Rattle.bits.specs.Laws.{flip-lt, flip-moves, flip-eq, lt-or-le}
 use Rattle.scan.specs.Scan.{pick, count}
 use Rattle.scan.specs.Counts.{count-places}
-use Rattle.two_parts.specs.Two.{relays, blockOf, slotOf, relay, linked}
+use Rattle.paths.specs.Links.{Links}
+use Rattle.two_parts.specs.Two.{relays, blockOf, slotOf, relay, linked, two}
 use Rattle.two_parts.specs.Parts.{block-relay, slot-relay, relay-parts, relay-below, block-below, slot-below}
-use Rattle.two_parts.specs.Links.{Link, linked-link, link-linked}
+use Rattle.two_parts.specs.Links.{Link, linked-link, link-linked, linked-sym, linked-none}
 
 -- the relay at the other end of link i of u: bit i of the slot changed, or for i = m the block's bit of the slot
 unfoldable pub near : (m u i : ℕ) → ℕ
 near m u i = pick (ltb i m) (relay m (blockOf m u) (flip (slotOf m u) i)) (relay m (flip (blockOf m u) (slotOf m u)) (slotOf m u))
-
--- a changed bit makes another number, and different bits make different numbers
-flip-moves : (x i : ℕ) → flip x i ≢ x
-flip-moves x i e = let z : bit i x ≡ 1 - bit i x = sym (ap (bit i) e) ∙ flip-same x i in omega (arith, bit-lt i x)
-
-flip-differ : (x i j : ℕ) → flip x i ≡ flip x j → i ≡ j
-flip-differ x i j e = go (ℕ-discrete i j)
-  where
-    go : Dec (i ≡ j) → i ≡ j
-    go (yes z) = z
-    go (no ne) =
-        let z : 1 - bit i x ≡ bit i x = sym (flip-same x i) ∙ ap (bit i) e ∙ flip-other x j i ne in absurd (omega (arith, bit-lt i x))
 
 module _ (m u : ℕ) where
   abbrev b : ℕ
@@ -84,7 +72,7 @@ module _ (m u : ℕ) where
   near-differ i j h g e = go (lt-or-le i m) (lt-or-le j m)
     where
       go : (i < m) ⊎ (m ≤ i) → (j < m) ⊎ (m ≤ j) → i ≡ j
-      go (inl l) (inl k) = flip-differ p i j (sym (inside-parts i l .1) ∙ ap (slotOf m) e ∙ inside-parts j k .1)
+      go (inl l) (inl k) = flip-eq p i j (sym (inside-parts i l .1) ∙ ap (slotOf m) e ∙ inside-parts j k .1)
       go (inl l) (inr k) = absurd (flip-moves p i (sym (inside-parts i l .1) ∙ ap (slotOf m) e ∙ across-parts j k .1))
       go (inr l) (inl k) = absurd (flip-moves p j (sym (inside-parts j k .1) ∙ ap (slotOf m) (sym e) ∙ across-parts i l .1))
       go (inr l) (inr k) = omega arith
@@ -98,3 +86,13 @@ module _ (m u : ℕ) where
         holds = λ i l. near-linked i;
         only = λ v l e. let (i, g, z) = linked-near v e in (i, g, sym z);
       })
+
+pub links : (m : ℕ) → Links (two m) (near m)
+links m = record {
+  both = linked-sym m;
+  away = linked-none m;
+  below = λ u i h l. near-below m u h i;
+  linked = λ u i h l. near-linked m u i;
+  all = λ u v h g e. let (i, l, z) = linked-near m u v e in (i, l, sym z);
+  differ = λ u i j h l g e. near-differ m u i j l g e;
+}

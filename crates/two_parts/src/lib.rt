@@ -7,6 +7,7 @@ mod views;
 
 pub use links::joined;
 pub use links::link;
+pub use links::near;
 pub use parts::Block;
 pub use parts::Slot;
 pub use parts::block_of;

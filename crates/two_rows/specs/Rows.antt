@@ -8,9 +8,8 @@ use lib.ListN.{length, getD}
 use lib.Count.{ones}
 use Rattle.cube_math.specs.Masks.{at}
 use Rattle.bits.specs.Bit.{bit, flip}
-use Rattle.bits.specs.Laws.{bit-none, clash, flip-other, ones-clear}
+use Rattle.bits.specs.Laws.{bit-none, clash, flip-other, ones-clear, same-or}
 use Rattle.cube_math.specs.Doors.{Doors}
-use Rattle.cube_math.specs.Paths.{same-or}
 use Rattle.cube_math.specs.Choose.{cleared}
 use Rattle.cube_math.specs.Request.{Request, request-same, doors-same}
 use Rattle.cube_rows.specs.Grid.{Sets, target, lone-target, hops-same, rows-apart}

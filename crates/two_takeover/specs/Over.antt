@@ -15,9 +15,8 @@ use lib.Bits.{bitXor, xor-lt}
 use lib.Count.{ones}
 use Rattle.cube_math.specs.Masks.{at}
 use Rattle.bits.specs.Bit.{bit, flip, Lowest}
-use Rattle.bits.specs.Laws.{bit-none, bit-on, clash, flip-lt, flip-other, lt-or, ones-clear, xor-zero-eq}
+use Rattle.bits.specs.Laws.{bit-none, bit-on, clash, flip-lt, flip-other, lt-or, ones-clear, xor-zero-eq, flip-moves, flip-eq, same-or}
 use Rattle.cube_math.specs.Doors.{In, Fresh, Walk}
-use Rattle.cube_math.specs.Paths.{flip-moves, flip-eq, same-or}
 use Rattle.cube_math.specs.Choose.{cleared}
 use Rattle.cube_math.specs.Plain.{full-below}
 use Rattle.two_parts.specs.Digits.{bit-below}

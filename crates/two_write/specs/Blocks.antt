@@ -12,10 +12,9 @@ use lib.Seq.{sets, length-sets, take-suc}
 use lib.Bits.{bitXor}
 use lib.Pow.{pow-mono, pow-add}
 use Rattle.bits.specs.Bit.{bit, flip, Lowest}
-use Rattle.bits.specs.Laws.{flip-lt, xor-zero-eq}
+use Rattle.bits.specs.Laws.{flip-lt, xor-zero-eq, flip-moves}
 use Rattle.paths.specs.Lists.{in-at}
 use Rattle.cube_math.specs.Doors.{In, Walk}
-use Rattle.cube_math.specs.Paths.{flip-moves}
 use Rattle.cube_math.specs.Plain.{full-below}
 use Rattle.two_math.specs.Relays.{Relay, inside, length-inside}
 use Rattle.two_math.specs.Through.{Stroll, Crosses, crosses-short}

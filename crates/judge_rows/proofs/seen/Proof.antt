@@ -1,4 +1,7 @@
 -- `judge_rows::seen` meets its contract. Assumes nothing.
+use mathlib.Core.Path.{refl}
+use native.Mathlib.Omega.{arith}
+use Rattle.paths.specs.Fan.{hops}
 use Rattle.judge_rows.specs.Laws.{seen-on-this, seen-excepted, seen-before}
 use Rattle.judge_rows.specs.Rules.{rulesOf}
 use borrow.Author.Needs.{needs}
@@ -18,24 +21,41 @@ returns : tie.Need-returns
 returns c =
     let s = c .before .before .before .before .before in
     let a = s .args in
-    seen-on-this (rulesOf (a .rules) .mesh) (a .places .now) (a .counts .now) (a .i) (a .p) (s .pre .ruled .wide) (c .before .before .relay .ensures) (c .before .among .ensures) (c .if1 .taken)
+    seen-on-this (rulesOf (a .rules)) (a .places .now) (a .counts .now) (a .i) (a .p) (s .pre .ruled .wide) (c .before .before .relay .ensures) (c .before .among .ensures) (c .if1 .taken)
+
+mul-h : tie.Need-mul-h
+mul-h c = search needs
+
+shared-slice-read-h : tie.Need-shared-slice-read-h
+shared-slice-read-h c = c .before .before .before .before .before .before .pre .counted
+
+excepted-requires : tie.Need-excepted-requires
+excepted-requires c κs = search needs
+
+twinned-requires : tie.Need-twinned-requires
+unfolding hops
+twinned-requires c κs = (omega (arith, c .before .before .before .before .before .before .before .before .pre .counted), refl)
 
 returns-2 : tie.Need-returns-2
+unfolding hops
 returns-2 c =
-    let s = c .before .before .before .before .before .before in
+    let d = c .before .before .before .before in
+    let s = d .before .before .before .before .before in
     let a = s .args in
-    seen-excepted (rulesOf (a .rules) .mesh) (a .places .now) (a .counts .now) (a .i) (a .p) (s .pre .ruled .wide) (c .before .before .before .relay .ensures) (c .before .before .among .ensures) (c .before .if1 .left)
-    (c .if2 .taken)
+    seen-excepted (rulesOf (a .rules)) (a .places .now) (a .counts .now) (a .i) (a .p) (s .pre .ruled .wide) (d .before .before .relay .ensures) (d .before .among .ensures) (d .if1 .left)
+    (c .before .before .excepted .ensures) (c .before .if2 .taken) (c .twinned .ensures)
 
 on-earlier-requires : tie.Need-on-earlier-requires
-on-earlier-requires c κs = c .before .before .before .before .before .before .pre .held
+on-earlier-requires c κs = c .before .before .before .before .before .before .before .before .pre .held
 
 returns-3 : tie.Need-returns-3
+unfolding hops
 returns-3 c =
-    let s = c .before .before .before .before .before .before .before in
+    let d = c .before .before .before .before in
+    let s = d .before .before .before .before .before in
     let a = s .args in
-    seen-before (rulesOf (a .rules) .mesh) (a .places .now) (a .counts .now) (a .i) (a .p) (s .pre .ruled .wide) (c .before .before .before .before .relay .ensures) (c .before .before .before .among .ensures)
-    (c .before .before .if1 .left) (c .before .if2 .left) (c .on-earlier .ensures)
+    seen-before (rulesOf (a .rules)) (a .places .now) (a .counts .now) (a .i) (a .p) (s .pre .ruled .wide) (d .before .before .relay .ensures) (d .before .among .ensures) (d .if1 .left)
+    (c .before .before .excepted .ensures) (c .before .if2 .left) (c .on-earlier .ensures)
 
 pub seen-spec : {M : Type 1} → statement M
 seen-spec =
@@ -45,6 +65,10 @@ seen-spec =
     mul-among
     among-requires
     returns
+    mul-h
+    shared-slice-read-h
+    excepted-requires
+    twinned-requires
     returns-2
     on-earlier-requires
     returns-3)

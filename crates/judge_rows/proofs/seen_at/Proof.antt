@@ -21,7 +21,7 @@ loop-holds c = passed-start _ 0 _
 seen-requires : tie.Need-seen-requires Inv-loop μ-loop
 seen-requires c κs =
     let s = c .before .before .before .before in
-    record { ruled = s .pre .ruled; held = s .pre .held; row = record { room = s .pre .row .room; short = omega (arith, s .pre .row .short) } }
+    record { ruled = s .pre .ruled; held = s .pre .held; counted = s .pre .counted; row = record { room = s .pre .row .room; short = omega (arith, s .pre .row .short) } }
 
 returns : tie.Need-returns Inv-loop μ-loop
 returns c = sym (passed-at (c .before .before .before .loop .inv) (omega arith) (sym (c .before .seen .ensures) ∙ c .if1 .taken))
