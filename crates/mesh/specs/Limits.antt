@@ -7,6 +7,7 @@ use native.Mathlib.Nat.{mul-le-mul, le-trans}
 use native.Mathlib.Omega.{arith}
 use lib.Pow.{pow-mono}
 use Rattle.paths.specs.Mesh.{Mesh, width}
+use Rattle.paths.specs.Bundles.{longer}
 use Rattle.cube.specs.Sizes.{known-most}
 use Rattle.two_parts.specs.Parts.{known-bounds, longest-few, relays-few}
 use Rattle.mesh.specs.Kinds.{Kind, kindOf, meshOf, known}
@@ -49,6 +50,10 @@ module _ (k n : ℕ) (h : known k n ≡ true) where
   pub known-places : meshOf k n .links * width (meshOf k n) ≤ mostPlaces
   known-places = known-within n k h (λ (K : Kind). K .mesh n .links * width (K .mesh n) ≤ mostPlaces)
       (λ K w. le-trans (mul-le-mul (w .0) (w .1)) (omega arith)) (λ K w. mul-le-mul (w .0) (w .1))
+
+  -- a bundle has a place more for each path
+  pub known-bundle : meshOf k n .links * width (longer (meshOf k n)) ≤ mostPlaces + mostLinks
+  known-bundle = omega (arith, known-places, known-links)
 
   pub known-bytes : sheetMost (meshOf k n) ≤ mostBytes
   known-bytes = known-within n k h (λ (K : Kind). sheetMost (K .mesh n) ≤ mostBytes)

@@ -1,13 +1,13 @@
--- `cube_split::shift` meets its contract. The loop's invariant: q numbers are moved, and those that are not written yet are as they were. Assumes nothing.
+-- `scan::shift` meets its contract. The loop's invariant: q numbers are moved, and those that are not written yet are as they were. Assumes nothing.
 use mathlib.Core.Path.{_≡_, refl}
 use Prim.Native.Nat.{ℕ, _+_, _≤_, _-_}
 use mathlib.Core.List.{List}
 use native.Mathlib.Omega.{arith}
 use lib.ListN.{length, length-set}
-use Rattle.cube_split.specs.Fan.{Shifted, shifted-none, shifted-more, shifted-all}
+use Rattle.scan.specs.Runs.{Shifted, shifted-none, shifted-more, shifted-all}
 use borrow.Author.Needs.{needs}
-use Rattle.cube_split.proofs.shift.Statement.{statement}
-use Rattle.cube_split.proofs.shift.Tie as tie
+use Rattle.scan.proofs.shift.Statement.{statement}
+use Rattle.scan.proofs.shift.Tie as tie
 
 record Inv (to from n : ℕ) (l m : List ℕ) (q : ℕ) : Type 0 where
   bound : q ≤ n
