@@ -12,7 +12,7 @@ use Rattle.mesh.specs.Kinds.{Kind}
 use Rattle.mesh.specs.Says as mesh
 use Rattle.cube_plan.specs.Says as doors
 use Rattle.line.specs.Says.{lineFaults}
-use Rattle.host.specs.Says.{planFaults}
+use Rattle.region.specs.Says.{planFaults}
 
 abbrev Ordered : List Fault → Type 0
 Ordered l = inOrder l ≡ true

@@ -1,7 +1,3 @@
--- What the calls for C and C++ promise, and why they keep it.
+-- What the calls for C and C++ promise.
 pub mod Says
-pub mod Needs
-pub mod Stepping
-pub mod Planning
 pub mod Unique
-pub mod Trips

@@ -1,12 +1,16 @@
-// Facts, links, distance, route, judge, survivors and sheets over numbers and slices: the library's own routines, and nothing added.
+// Facts, links, distance, route, fans, bundles, judge, survivors and sheets over numbers and slices: the library's own routines, and nothing added.
 ghost use mathlib.Core.Path.{_≡_};
 ghost use mathlib.Core.Bool.{false};
-ghost use Rattle.mesh.specs.Kinds.{kindOf};
-ghost use Rattle.mesh.specs.Says.{linkedTold, distanceTold, routeTold, routeLeaves};
+ghost use lib.ListN.{length};
+ghost use Rattle.mesh.specs.Kinds.{kindOf, meshOf};
+ghost use Rattle.mesh.specs.Says.{linkedTold, distanceTold, routeTold, routeLeaves, requestAgainst, short, bundleAgainst, bundleShort};
+ghost use Rattle.paths.specs.Mesh.{width};
+ghost use Rattle.paths.specs.Fan.{Fan};
+ghost use Rattle.paths.specs.Bundles.{longer, Bundle};
 ghost use Rattle.paths.specs.Whole.{failed};
 ghost use Rattle.judge.specs.Says.{judgeTold};
 ghost use Rattle.shapes.specs.Shapes as specs;
-ghost use Rattle.host.specs.Says.{SurvivedIn, WroteIn, ReadIn};
+ghost use Rattle.host.specs.Says.{PlannedIn, SurvivedIn, WroteIn, ReadIn};
 use mesh::Mesh;
 use shapes::GustAnswer;
 use shapes::GustFacts;
@@ -75,6 +79,51 @@ pub extern "C" fn gust_route(
         target,
         out,
     ))
+}
+
+// `planner::plan`: the value is how many paths.
+#[no_mangle]
+pub extern "C" fn gust_fan(
+    kind: u64,
+    size: u64,
+    source: u64,
+    targets: &[u64],
+    places: &mut [u64],
+    counts: &mut [u64],
+) -> GustAnswer
+    ensures { λ r. ⌜ PlannedIn (requestAgainst (kindOf kind) size source (now (targets .entry)) (short (meshOf kind size) (length (now (targets .entry))) (length (now (places .entry))) (length (now (counts .entry))))) (length (now (targets .entry))) (width (meshOf kind size)) (Fan (meshOf kind size) source (now (targets .entry))) (now (places .entry)) (now (counts .entry)) r (now (places .exit)) (now (counts .exit)) ⌝ }
+{
+    let planned = planner::plan(
+        Mesh {
+            kind: kind,
+            size: size,
+        },
+        source,
+        targets,
+        places,
+        counts,
+    );
+    shapes::of_checked(planned, targets.len() as u64)
+}
+
+// `bundle::plan`: the value is how many paths.
+#[no_mangle]
+pub extern "C" fn gust_bundle(
+    kind: u64,
+    size: u64,
+    source: u64,
+    target: u64,
+    places: &mut [u64],
+    counts: &mut [u64],
+) -> GustAnswer
+    ensures { λ r. ⌜ PlannedIn (bundleAgainst (kindOf kind) size source target (bundleShort (meshOf kind size) (length (now (places .entry))) (length (now (counts .entry))))) (meshOf kind size .links) (width (longer (meshOf kind size))) (Bundle (meshOf kind size) source target) (now (places .entry)) (now (counts .entry)) r (now (places .exit)) (now (counts .exit)) ⌝ }
+{
+    let mesh = Mesh {
+        kind: kind,
+        size: size,
+    };
+    let planned = bundle::plan(mesh, source, target, places, counts);
+    shapes::of_checked(planned, mesh.links().value())
 }
 
 // `judge::judge`.
