@@ -5,3 +5,4 @@ pub mod Ends
 pub mod Closing
 pub mod Laying
 pub mod Steps
+pub mod Survive
