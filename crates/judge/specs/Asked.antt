@@ -1,4 +1,4 @@
--- Laws of what is judged: want of room is told last, so where something else stands against it room does not matter (`against-alike`), and where nothing
+-- Laws of what is judged: want of room is told last, so where something else stands against it room does not matter (`asked-alike`), and where nothing
 -- does there is room for its paths (`asked-passed`); what is told, as code goes through it (`told-refused`, `told-short`, `told-granted`). A bundle's room and faults are those that the mesh tells (`bundle-cramped`, `bundle-against`).
 -- Assumes nothing.
 use Prim.Native.Nat.{ℕ, zero, suc, _+_, _*_, _≤_}
@@ -28,12 +28,18 @@ use Rattle.mesh.specs.Requests.{neither-wanting}
 use Rattle.judge.specs.Says.{rule, Asked, bundleAsked, cramped, askedAgainst, askedFinding, askedTold}
 
 -- where another fault stands, room does not matter
-pub against-alike : (l : List Fault) (a b : Bool) → (first l ≡ none → a ≡ b) → first (l ++ roomFaults a) ≡ first (l ++ roomFaults b)
+against-alike : (l : List Fault) (a b : Bool) → (first l ≡ none → a ≡ b) → first (l ++ roomFaults a) ≡ first (l ++ roomFaults b)
 against-alike l a b same = room-last l a ∙ go (first l) refl ∙ sym (room-last l b)
   where
     go : (o : Option Refusal) → first l ≡ o → before o (refuse a NoRoom none) ≡ before o (refuse b NoRoom none)
     go none e = ap (λ (x : Bool). refuse x NoRoom none) (same e)
     go (some why) e = refl
+
+-- so it does not what is lacking
+pub asked-alike : (q : Asked) (places counts : List ℕ) (a b : Bool) → (first (q .faults) ≡ none → a ≡ b) → askedAgainst q places counts a ≡ askedAgainst q places counts b
+asked-alike q places counts a b same =
+    let wanted : Bool → Bool = λ x. pick x true (cramped q places counts) in
+    against-alike (q .faults) (wanted a) (wanted b) (λ e. ap wanted (same e))
 
 -- nothing stands against it: no fault, nothing is lacking, and there are places and counts for its paths
 pub record Passed (q : Asked) (places counts : ℕ) (lacking : Bool) : Type 0 where
