@@ -3,6 +3,7 @@ ghost use mathlib.Core.Path.{_≡_};
 ghost use Prim.Native.Nat.{_<_};
 ghost use Rattle.paths.specs.Whole.{failed};
 ghost use Rattle.mesh.specs.Kinds.{kindOf};
+ghost use Rattle.judge.specs.Says.{fanAsked};
 ghost use Rattle.entries.specs.Gathered.{MOST, capped, takenOf, entryAt, Gathers};
 use crate::Entry;
 use mesh::Mesh;
@@ -79,7 +80,7 @@ pub fn gather<'b>(
     stopped: &'b [u64],
     room: usize,
 ) -> Gathered
-    ensures { λ r. ⌜ Gathers (kindOf (mesh .kind)) (mesh .size) source (now (targets .entry)) (now (places .entry)) (now (counts .entry)) (failed (now (stopped .entry))) room r ⌝ }
+    ensures { λ r. ⌜ Gathers (fanAsked (kindOf (mesh .kind)) (mesh .size) source (now (targets .entry))) (now (places .entry)) (now (counts .entry)) (failed (now (stopped .entry))) room r ⌝ }
 {
     let n = most(room);
     let mut ends = [0u64; MOST];

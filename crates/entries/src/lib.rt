@@ -5,6 +5,7 @@ ghost use mathlib.Core.Path.{_≡_};
 ghost use lib.ListN.{length};
 ghost use Rattle.paths.specs.Whole.{failed};
 ghost use Rattle.mesh.specs.Kinds.{kindOf};
+ghost use Rattle.judge.specs.Says.{fanAsked};
 ghost use Rattle.entries.specs.Says.{Listed};
 ghost use Rattle.entries.specs.Gathered.{stored};
 ghost use Rattle.entries.specs.Needs.{Fits};
@@ -48,7 +49,7 @@ pub fn survivors<'a, 'b>(
     stopped: &'b [u64],
     out: &'a mut [Entry],
 ) -> Tally
-    ensures { λ r. ⌜ Listed (kindOf (mesh .kind)) (mesh .size) source (now (targets .entry)) (now (places .entry)) (now (counts .entry)) (failed (now (stopped .entry))) (now (out .entry)) r (now (out .exit)) ⌝ }
+    ensures { λ r. ⌜ Listed (fanAsked (kindOf (mesh .kind)) (mesh .size) source (now (targets .entry))) (now (places .entry)) (now (counts .entry)) (failed (now (stopped .entry))) (now (out .entry)) r (now (out .exit)) ⌝ }
 {
     let g = gathered::gather(mesh, source, targets, places, counts, stopped, out.len());
     store(g, out)
