@@ -134,7 +134,8 @@ pub fn gather_bundle<'b>(
         &mut hops[..n],
         &mut wholes[..n],
     );
-    let k = taken(tally, columns::bundle_paths(mesh));
+    let paths = columns::bundle_paths(mesh);
+    let k = taken(tally, paths);
     Gathered {
         tally: tally,
         k: k,
