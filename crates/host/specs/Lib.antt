@@ -1,3 +1,4 @@
 -- What the calls for C and C++ promise.
 pub mod Says
+pub mod Laws
 pub mod Unique

@@ -9,13 +9,13 @@ use Rattle.answers.specs.declared.Refusal.{Refusal}
 use Rattle.answers.specs.declared.Checked.{Checked}
 use Rattle.paths.specs.Whole.{Failed}
 use Rattle.requests.specs.Planned.{PlannedAs}
-use Rattle.mesh.specs.Kinds.{Kind}
 use Rattle.sheet.specs.Format.{kindAt, sizeAt, sourceAt, countAt}
 use Rattle.sheet.specs.Says.{tellWritten, tellRead}
 use Rattle.sheet.specs.declared.Written.{Written}
 use Rattle.sheet.specs.declared.Reading.{Reading}
 use Rattle.sheet_write.specs.Says.{writeAgainst, sheet, Wrote}
 use Rattle.sheet_read.specs.Says.{readsAgainst, Read}
+use Rattle.judge.specs.Says.{Asked}
 use Rattle.survivors.specs.Says.{survivorsTold, Survived}
 use Rattle.survivors.specs.declared.Tally.{Tally}
 use Rattle.shapes.specs.Shapes.{answerIn, tallyIn, writtenIn, readingIn}
@@ -28,10 +28,10 @@ pub record PlannedIn (o : Option Refusal) (k w : ℕ) (P : (places counts : List
   pub answer : Checked
   pub left : PlannedAs o k w P places counts answer places₁ counts₁
 
-pub record SurvivedIn (K : Kind) (n s : ℕ) (targets places counts : List ℕ) (fails : Failed) (ends hops wholes : List ℕ) (r : GustAnswer) (ends₁ hops₁ wholes₁ : List ℕ) : Type 0 where
-  pub told : r ≡ tallyIn (survivorsTold K n s targets places counts fails ends hops wholes)
+pub record SurvivedIn (q : Asked) (places counts : List ℕ) (fails : Failed) (ends hops wholes : List ℕ) (r : GustAnswer) (ends₁ hops₁ wholes₁ : List ℕ) : Type 0 where
+  pub told : r ≡ tallyIn (survivorsTold q places counts fails ends hops wholes)
   pub tally : Tally
-  pub left : Survived K n s targets places counts fails ends hops wholes tally ends₁ hops₁ wholes₁
+  pub left : Survived q places counts fails ends hops wholes tally ends₁ hops₁ wholes₁
 
 pub record WroteIn (kind size s : ℕ) (targets places counts out : List ℕ) (r : GustAnswer) (out₁ : List ℕ) : Type 0 where
   pub told : r ≡ writtenIn (tellWritten (writeAgainst kind size s targets places counts out) (length (sheet kind size s targets places counts out)))

@@ -5,7 +5,7 @@ use mathlib.Core.List.{List}
 use mathlib.Core.Option.{Option, some}
 use Rattle.answers.specs.declared.Refusal.{Refusal}
 use Rattle.paths.specs.Whole.{Failed}
-use Rattle.mesh.specs.Kinds.{Kind}
+use Rattle.judge.specs.Says.{Asked}
 use Rattle.host.specs.Says.{PlannedIn, SurvivedIn, WroteIn, ReadIn}
 use Rattle.shapes.specs.declared.GustAnswer.{GustAnswer}
 use Rattle.shapes.specs.declared.GustReading.{GustReading}
@@ -21,10 +21,10 @@ module _ {o : Option Refusal} {k w : ℕ} {P : (places counts : List ℕ) → Ty
       let y = b .left .refused why e in
       (x .0 ∙ sym (y .0), x .1 ∙ sym (y .1))
 
-pub survived-in-unique : (K : Kind) (n s : ℕ) (targets places counts : List ℕ) (fails : Failed) (ends hops wholes : List ℕ) (r q : GustAnswer) (ends₁ hops₁ wholes₁ ends₂ hops₂ wholes₂ : List ℕ)
-    → SurvivedIn K n s targets places counts fails ends hops wholes r ends₁ hops₁ wholes₁ → SurvivedIn K n s targets places counts fails ends hops wholes q ends₂ hops₂ wholes₂
-    → (r ≡ q) × (ends₁ ≡ ends₂) × (hops₁ ≡ hops₂) × (wholes₁ ≡ wholes₂)
-survived-in-unique K n s targets places counts fails ends hops wholes r q ends₁ hops₁ wholes₁ ends₂ hops₂ wholes₂ a b = (
+pub survived-in-unique : {q : Asked} {places counts : List ℕ} {fails : Failed} {ends hops wholes : List ℕ} {r p : GustAnswer} {ends₁ hops₁ wholes₁ ends₂ hops₂ wholes₂ : List ℕ}
+    → SurvivedIn q places counts fails ends hops wholes r ends₁ hops₁ wholes₁ → SurvivedIn q places counts fails ends hops wholes p ends₂ hops₂ wholes₂
+    → (r ≡ p) × (ends₁ ≡ ends₂) × (hops₁ ≡ hops₂) × (wholes₁ ≡ wholes₂)
+survived-in-unique a b = (
   a .told ∙ sym (b .told),
   a .left .ended ∙ sym (b .left .ended),
   a .left .hopped ∙ sym (b .left .hopped),

@@ -8,7 +8,7 @@ ghost use Rattle.paths.specs.Mesh.{width};
 ghost use Rattle.paths.specs.Fan.{Fan};
 ghost use Rattle.paths.specs.Bundles.{longer, Bundle};
 ghost use Rattle.paths.specs.Whole.{failed};
-ghost use Rattle.judge.specs.Says.{judgeTold};
+ghost use Rattle.judge.specs.Says.{judgeTold, bundleTold, fanAsked, bundleAsked};
 ghost use Rattle.shapes.specs.Shapes as specs;
 ghost use Rattle.host.specs.Says.{PlannedIn, SurvivedIn, WroteIn, ReadIn};
 use mesh::Mesh;
@@ -150,6 +150,30 @@ pub extern "C" fn gust_judge(
     ))
 }
 
+// `judge::judge_bundle`.
+#[no_mangle]
+pub extern "C" fn gust_judge_bundle(
+    kind: u64,
+    size: u64,
+    source: u64,
+    target: u64,
+    places: &[u64],
+    counts: &[u64],
+) -> GustVerdict
+    ensures { λ r. ⌜ r ≡ specs.verdictIn (bundleTold (kindOf kind) size source target (now (places .entry)) (now (counts .entry)) false) ⌝ }
+{
+    shapes::of_verdict(judge::judge_bundle(
+        Mesh {
+            kind: kind,
+            size: size,
+        },
+        source,
+        target,
+        places,
+        counts,
+    ))
+}
+
 // `survivors::survivors`: the value is how many paths are whole.
 #[no_mangle]
 pub extern "C" fn gust_survivors(
@@ -164,7 +188,7 @@ pub extern "C" fn gust_survivors(
     hops: &mut [u64],
     wholes: &mut [u64],
 ) -> GustAnswer
-    ensures { λ r. ⌜ SurvivedIn (kindOf kind) size source (now (targets .entry)) (now (places .entry)) (now (counts .entry)) (failed (now (stopped .entry))) (now (ends .entry)) (now (hops .entry)) (now (wholes .entry)) r (now (ends .exit)) (now (hops .exit)) (now (wholes .exit)) ⌝ }
+    ensures { λ r. ⌜ SurvivedIn (fanAsked (kindOf kind) size source (now (targets .entry))) (now (places .entry)) (now (counts .entry)) (failed (now (stopped .entry))) (now (ends .entry)) (now (hops .entry)) (now (wholes .entry)) r (now (ends .exit)) (now (hops .exit)) (now (wholes .exit)) ⌝ }
 {
     shapes::of_tally(survivors::survivors(
         Mesh {
@@ -173,6 +197,38 @@ pub extern "C" fn gust_survivors(
         },
         source,
         targets,
+        places,
+        counts,
+        stopped,
+        ends,
+        hops,
+        wholes,
+    ))
+}
+
+// `survivors::bundle_survivors`: the value is how many paths are whole.
+#[no_mangle]
+pub extern "C" fn gust_bundle_survivors(
+    kind: u64,
+    size: u64,
+    source: u64,
+    target: u64,
+    places: &[u64],
+    counts: &[u64],
+    stopped: &[u64],
+    ends: &mut [u64],
+    hops: &mut [u64],
+    wholes: &mut [u64],
+) -> GustAnswer
+    ensures { λ r. ⌜ SurvivedIn (bundleAsked (kindOf kind) size source target) (now (places .entry)) (now (counts .entry)) (failed (now (stopped .entry))) (now (ends .entry)) (now (hops .entry)) (now (wholes .entry)) r (now (ends .exit)) (now (hops .exit)) (now (wholes .exit)) ⌝ }
+{
+    shapes::of_tally(survivors::bundle_survivors(
+        Mesh {
+            kind: kind,
+            size: size,
+        },
+        source,
+        target,
         places,
         counts,
         stopped,

@@ -24,16 +24,16 @@ enum-known-hop-2 : tie.Need-enum-known-hop-2
 enum-known-hop-2 c = search needs
 
 code-requires : tie.Need-code-requires
-code-requires c κs = let a = c .before .before .before .before .before .args in next-place (kindOf (a .kind)) (a .size) (a .source) (a .target) (c .before .hop2 .given .1) (c .before .before .before .next-hop .ensures) refl
+code-requires c κs = let a = c .before .before .before .before .before .args in next-place (kindOf (a .mesh .kind)) (a .mesh .size) (a .source) (a .target) (c .before .hop2 .given .1) (c .before .before .before .next-hop .ensures) refl
 
 same-length : tie.Need-same-length
 same-length c = search needs
 
 returns : tie.Need-returns
-returns c = let a = c .before .before .before .before .before .before .before .before .before .args in next-put (kindOf (a .kind)) (a .size) (a .source) (a .target) (a .out .now) (c .before .before .before .before .before .hop .given .1) (c .before .before .before .before .before .before .before .next-hop .ensures) (c .before .before .put-relay .ensures)
+returns c = let a = c .before .before .before .before .before .before .before .before .before .args in next-put (kindOf (a .mesh .kind)) (a .mesh .size) (a .source) (a .target) (a .out .now) (c .before .before .before .before .before .hop .given .1) (c .before .before .before .before .before .before .before .next-hop .ensures) (c .before .before .put-relay .ensures)
 
 returns-2 : tie.Need-returns-2
-returns-2 c = let a = c .before .before .before .before .before .before .args in next-refused (kindOf (a .kind)) (a .size) (a .source) (a .target) (a .out .now) (c .before .before .hop2 .given .1) (c .before .before .before .before .next-hop .ensures) (c .code .ensures)
+returns-2 c = let a = c .before .before .before .before .before .before .args in next-refused (kindOf (a .mesh .kind)) (a .mesh .size) (a .source) (a .target) (a .out .now) (c .before .before .hop2 .given .1) (c .before .before .before .before .next-hop .ensures) (c .code .ensures)
 
 pub next-hop-spec : {M : Type 1} → statement M
 next-hop-spec =

@@ -12,7 +12,7 @@ code-requires : tie.Need-code-requires
 code-requires c κs = search needs
 
 returns : tie.Need-returns
-returns c = let a = c .before .before .before .before .args in unreadable (a .kind) (a .size) (a .source) (a .targets .now) (a .out .now) (c .before .if1 .taken) (c .code .ensures)
+returns c = let a = c .before .before .before .before .args in unreadable (a .mesh .kind) (a .mesh .size) (a .source) (a .targets .now) (a .out .now) (c .before .if1 .taken) (c .code .ensures)
 
 plan-bytes-requires : tie.Need-plan-bytes-requires
 plan-bytes-requires c κs = search needs
