@@ -22,6 +22,7 @@ use Rattle.sheet.specs.declared.Written.{Written}
 use Rattle.sheet.specs.declared.Reading.{Reading}
 use Rattle.sheet_read.specs.Says.{readsAgainst, Read}
 use Rattle.paths.specs.Whole.{Failed}
+use Rattle.judge.specs.Says.{fanAsked}
 use Rattle.survivors.specs.Says.{survivorsTold, Survived}
 use Rattle.survivors.specs.declared.Tally.{Tally}
 use Rattle.shapes.specs.Shapes.{tallyIn, writtenIn, readingIn}
@@ -100,9 +101,9 @@ pub record Planned (o : Option Refusal) (kind size s : ℕ) (targets out : List 
 -- ---- the calls that fill slices: what is told, and the slices as the library's routine leaves them
 
 pub record SurvivedIn (K : Kind) (n s : ℕ) (targets places counts : List ℕ) (fails : Failed) (ends hops wholes : List ℕ) (r : GustAnswer) (ends₁ hops₁ wholes₁ : List ℕ) : Type 0 where
-  pub told : r ≡ tallyIn (survivorsTold K n s targets places counts fails ends hops wholes)
+  pub told : r ≡ tallyIn (survivorsTold (fanAsked K n s targets) places counts fails ends hops wholes)
   pub tally : Tally
-  pub left : Survived K n s targets places counts fails ends hops wholes tally ends₁ hops₁ wholes₁
+  pub left : Survived (fanAsked K n s targets) places counts fails ends hops wholes tally ends₁ hops₁ wholes₁
 
 pub record WroteIn (kind size s : ℕ) (targets places counts out : List ℕ) (r : GustAnswer) (out₁ : List ℕ) : Type 0 where
   pub told : r ≡ writtenIn (tellWritten (writeAgainst kind size s targets places counts out) (length (sheet kind size s targets places counts out)))
