@@ -1,5 +1,5 @@
--- What the three columns of the paths of a fan or a bundle hold: their targets, their hops, and which of them are whole (`Columns`); what stood behind those places
--- stays. Definitions; assumes nothing.
+-- What the three columns of the paths of a fan or a bundle hold: their targets, their hops, and which of them are whole (`Columns`); what stood behind
+-- those places stays. Definitions; assumes nothing.
 use Prim.Native.Nat.{ℕ, zero, suc}
 use mathlib.Core.Path.{_≡_}
 use mathlib.Core.Bool.{Bool}

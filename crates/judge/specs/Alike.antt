@@ -1,5 +1,5 @@
--- What lies beyond the k paths of a fan or a bundle is not looked at: the judge tells the same of the slices cut to them (`judged-cut`), so the same of slices that
--- are the same so far (`judged-alike`). Assumes nothing.
+-- What lies beyond the k paths of a fan or a bundle is not looked at: the judge tells the same of the slices cut to them (`judged-cut`), so the same of
+-- slices that are the same so far (`judged-alike`). Assumes nothing.
 use Prim.Native.Nat.{ℕ, _*_, _≤_, min}
 use mathlib.Core.Path.{_≡_, sym, ap, ap₂, _∙_}
 use mathlib.Core.Bool.{Bool, true, false}

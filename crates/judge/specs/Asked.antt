@@ -1,6 +1,6 @@
 -- Laws of what is judged: want of room is told last, so where something else stands against it room does not matter (`asked-alike`), and where nothing
--- does there is room for its paths (`asked-passed`); what is told, as code goes through it (`told-refused`, `told-short`, `told-granted`). A bundle's room and faults are those that the mesh tells (`bundle-cramped`, `bundle-against`).
--- Assumes nothing.
+-- does there is room for its paths (`asked-passed`); what is told, as code goes through it (`told-refused`, `told-short`, `told-granted`). A bundle's
+-- room and faults are those that the mesh tells (`bundle-cramped`, `bundle-against`). Assumes nothing.
 use Prim.Native.Nat.{ℕ, zero, suc, _+_, _*_, _≤_}
 use mathlib.Core.Path.{_≡_, refl, sym, ap, _∙_}
 use mathlib.Core.Bool.{Bool, true, false}
@@ -35,7 +35,7 @@ against-alike l a b same = room-last l a ∙ go (first l) refl ∙ sym (room-las
     go none e = ap (λ (x : Bool). refuse x NoRoom none) (same e)
     go (some why) e = refl
 
--- so it does not what is lacking
+-- nor does what is lacking
 pub asked-alike : (q : Asked) (places counts : List ℕ) (a b : Bool) → (first (q .faults) ≡ none → a ≡ b) → askedAgainst q places counts a ≡ askedAgainst q places counts b
 asked-alike q places counts a b same =
     let wanted : Bool → Bool = λ x. pick x true (cramped q places counts) in

@@ -1,11 +1,11 @@
 // The first finding: of a path in the order of the numbers, of the paths in theirs.
 ghost use mathlib.Core.Path.{_≡_};
+ghost use mathlib.Core.Option.{none};
 ghost use lib.ListN.{length};
 ghost use Rattle.paths.specs.Finding as finding;
 ghost use Rattle.judge_rows.specs.Rules.{rulesOf};
 ghost use Rattle.judge_rows.specs.Needs.{Next};
 ghost use Rattle.judge.specs.Needs.{Lent};
-ghost use mathlib.Core.Option.{none};
 ghost use Rattle.judge.specs.Says.{searchOf, verdictTold, rule};
 use crate::Finding;
 use crate::Search;

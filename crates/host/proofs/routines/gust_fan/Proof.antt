@@ -17,7 +17,7 @@ same-length-2 : tie.Need-same-length-2
 same-length-2 c = search needs
 
 returns : tie.Need-returns
-returns c = fan-in (c .before .plan .ensures) (c .of-checked .ensures)
+returns c = fan-in (c .before .before .before .before .before .plan .ensures) (c .of-checked .ensures)
 
 pub gust-fan-spec : {M : Type 1} → statement M
 gust-fan-spec = tie.close (tie.spec plan-requires of-checked-requires same-length same-length-2 returns)
