@@ -15,8 +15,8 @@ namespace measure {
 using Plan = uint64_t (*)(uint64_t size, uint64_t source, const uint64_t *targets, size_t k, uint64_t *places, size_t room, uint64_t *counts,
                           size_t counted);
 
-// Room for 32 paths of the cube of 32 dimensions, and for 6 of order 5.
-constexpr size_t kPlaces = 6 * 207, kCounts = 32;
+// Room for 32 paths of the cube of 32 dimensions, and for 6 of order 5, in a bundle too.
+constexpr size_t kPlaces = 6 * 208, kCounts = 32;
 
 struct Request {
   uint64_t size, source;

@@ -3,6 +3,7 @@
 // each, half of them spread over the mesh and half crowded into two blocks, and the best of many bursts; the hops of the paths, beside the longest
 // and, for orders 1 to 3, the distances; and the stack that the library's planner takes.
 #include "flow.hpp"
+#include "gustparsley.h"
 #include "measure.hpp"
 #include "two_planner.hpp"
 
@@ -11,15 +12,12 @@
 #include <random>
 #include <set>
 
-extern "C" uint64_t gustparsley_plan_places(uint64_t kind, uint64_t size, uint64_t source, const uint64_t *targets, size_t k, uint64_t *places,
-                                            size_t room, uint64_t *counts, size_t counted);
-
 namespace {
 
 using measure::burst, measure::call, measure::Fan, measure::Request;
 
 uint64_t plan(uint64_t m, uint64_t source, const uint64_t *targets, size_t k, uint64_t *places, size_t room, uint64_t *counts, size_t counted) {
-  return gustparsley_plan_places(2, m, source, targets, k, places, room, counts, counted);
+  return gust_fan(2, m, source, targets, k, places, room, counts, counted).number;
 }
 
 std::vector<Request> requests(unsigned m, std::mt19937_64 &random) {

@@ -1,4 +1,4 @@
-/* Gustparsley for C and C++: fans of paths over a mesh of relays, next hops, routes, distances, the judge, survivors and sheets.
+/* Gustparsley for C and C++: fans and bundles of paths over a mesh of relays, next hops, routes, distances, the judge, survivors and sheets.
  *
  * Link with target/staticlib/libhost.a, which ./build makes. Every function here is proved to return and to leave in the slices what its
  * comment says. None allocates or keeps anything between calls, so they may be called from several threads at once.
@@ -12,6 +12,10 @@
  *
  * Fans in slices. Path i starts at place i * W of `places`, the source first, and has `counts[i]` hops; its places after its last relay hold GUST_UNUSED.
  * `targets[i]` is where it ends. There are k paths, one for each target.
+ *
+ * Bundles in slices. As many paths from the source to one target as a relay has links, k = `links`, which share nothing but the two ends. They lie as a fan's do, but
+ * each may have one hop more, so path i starts at place i * (W + 1). Path i comes to the target by its link i, links in the order of the bits, lowest first; in the
+ * two-level mesh the slot's bits, then the block's.
  *
  * Refusals. Every call tells a number, 0 where all is well, and with some numbers a place or a path. No call that tells a number other than 0 changes
  * any slice, and then every other value it returns is 0. Where several numbers apply, the first in the order given with each function is told. */
@@ -47,11 +51,12 @@ enum {
   GUST_NO_DISTANCE = 9,      /* distances are not answered for cubes and for orders 4 and 5 */
   GUST_UNREADABLE = 10,      /* the target bytes are no multiple of 8 */
   /* Findings of the judge, each with its path: */
-  GUST_TOO_LONG = 20,        /* more hops than the longest path has */
+  GUST_TOO_LONG = 20,        /* more hops than the longest path has, in a bundle one more */
   GUST_NOT_FROM_SOURCE = 21, /* place 0 is not the source */
   GUST_NOT_LINKED = 22,      /* a relay not linked to the one before, or out of range; the place of the first such */
   GUST_NOT_TO_TARGET = 23,   /* the last relay is not the target; the place is the hop count */
-  GUST_SEEN_AGAIN = 24,      /* a relay that stands earlier on the path or, the source at place 0 excepted, on an earlier path; the first place */
+  GUST_SEEN_AGAIN = 24,      /* a relay that stands earlier on the path or, the source at place 0 excepted, on an earlier path; the first place. In a bundle the
+                              * target at the end of its path is excepted too, but a second path that is the bare link has this at place 1 */
   GUST_NOT_FILLED = 25,      /* an unused place does not hold GUST_UNUSED; the first place */
   /* Flaws of a sheet: */
   GUST_CUT = 30,             /* fewer than 16 bytes, a wrong length field, or a path that runs out of bytes */
@@ -106,10 +111,27 @@ GustAnswer gust_distance(uint64_t kind, uint64_t size, uint64_t source, uint64_t
  * order: 1, 2, 5, and 8 where `out_len` is below hops + 1. */
 GustAnswer gust_route(uint64_t kind, uint64_t size, uint64_t source, uint64_t target, uint64_t *out, size_t out_len);
 
+/* Plans a fan from `source` to the targets, as gust_plan does, but in numbers: path i to targets[i] in places and counts, as said above; elements beyond the k paths
+ * stay as they were. The value is k. Numbers, in this order: 1 to 7, and 8 where there are fewer than k * W places or k counts. */
+GustAnswer gust_fan(uint64_t kind, uint64_t size, uint64_t source, const uint64_t *targets, size_t targets_len, uint64_t *places, size_t places_len,
+                    uint64_t *counts, size_t counts_len);
+
+/* Plans a bundle from `source` to `target`: as many paths as a relay has links, each with at most longest + 1 hops, that share nothing but the two ends. The
+ * two may be linked: one path is then the bare link. Elements beyond the paths stay as they were; which bundle it is, where there are several, is the library's
+ * choice. The value is how many paths. Numbers, in this order: 1, 2, 5, 6 where the two are equal, and 8 where there are fewer than links * (W + 1)
+ * places or links counts. A bundle survives the loss of any relays but the two ends, as long as they are fewer than the links. */
+GustAnswer gust_bundle(uint64_t kind, uint64_t size, uint64_t source, uint64_t target, uint64_t *places, size_t places_len, uint64_t *counts,
+                       size_t counts_len);
+
 /* Judges whether places and counts hold a fan from the source to the targets: number 0 where they do. Places and counts beyond the k paths are not looked at.
  * Numbers, in this order: 1 to 7; 8 where there are fewer than k * W places or k counts; then the first finding, 20 to 25, of the first path that has one. */
 GustVerdict gust_judge(uint64_t kind, uint64_t size, uint64_t source, const uint64_t *targets, size_t targets_len, const uint64_t *places, size_t places_len,
                        const uint64_t *counts, size_t counts_len);
+
+/* Judges whether places and counts hold a bundle from the source to the target: number 0 where they do. What lies beyond its paths is not looked at. Numbers, in this
+ * order: 1, 2, 5, 6; 8 as gust_bundle; then the first finding, 20 to 25, of the first path that has one. */
+GustVerdict gust_judge_bundle(uint64_t kind, uint64_t size, uint64_t source, uint64_t target, const uint64_t *places, size_t places_len,
+                              const uint64_t *counts, size_t counts_len);
 
 /* Of a fan, which paths are whole: those on which no relay is in `stopped`. Writes for path i its target to ends[i], its hops to hops[i], and 1 to wholes[i]
  * where it is whole, else 0; elements from k on stay as they were. The value is how many are whole. Numbers, in this order: 1 to 7; 8 where there are fewer
@@ -117,6 +139,13 @@ GustVerdict gust_judge(uint64_t kind, uint64_t size, uint64_t source, const uint
 GustAnswer gust_survivors(uint64_t kind, uint64_t size, uint64_t source, const uint64_t *targets, size_t targets_len, const uint64_t *places,
                           size_t places_len, const uint64_t *counts, size_t counts_len, const uint64_t *stopped, size_t stopped_len, uint64_t *ends,
                           size_t ends_len, uint64_t *hops, size_t hops_len, uint64_t *wholes, size_t wholes_len);
+
+/* The same of a bundle: ends[i] is the target for every path. With neither end stopped, links - f paths at least are whole where f different relays have
+ * stopped; where an end has stopped none is. Numbers, in this order: 1, 2, 5, 6; 8 as gust_bundle, or where there are fewer than links of ends, hops or wholes; then
+ * 20 to 25. */
+GustAnswer gust_bundle_survivors(uint64_t kind, uint64_t size, uint64_t source, uint64_t target, const uint64_t *places, size_t places_len,
+                                 const uint64_t *counts, size_t counts_len, const uint64_t *stopped, size_t stopped_len, uint64_t *ends, size_t ends_len,
+                                 uint64_t *hops, size_t hops_len, uint64_t *wholes, size_t wholes_len);
 
 /* Writes the sheet of a fan at the start of `out`; the value is its length in bytes. Bytes after it stay as they were. Numbers: 35 where the judge tells a
  * number but 8; 8 where it tells 8, or where `out_len` is below the length of the sheet. */

@@ -10,8 +10,8 @@
 #include <vector>
 
 extern "C" {
-uint64_t gustparsley_plan_places(uint64_t kind, uint64_t size, uint64_t source, const uint64_t *targets, size_t k, uint64_t *places, size_t room,
-                                 uint64_t *counts, size_t counted);
+uint64_t gustparsley_cube_plan(uint64_t n, uint64_t source, const uint64_t *targets, size_t k, uint64_t *places, size_t room, uint64_t *counts,
+                               size_t counted);
 uint64_t gustparsley_cube_plan_through(uint64_t n, uint64_t source, uint64_t doors, const uint64_t *targets, size_t k, uint64_t *places,
                                        size_t room, uint64_t *counts, size_t counted);
 }
@@ -23,10 +23,6 @@ using Words = std::vector<uint64_t>;
 constexpr uint64_t kFiller = ~uint64_t{0}, kUntouched = 77;
 
 int bits(uint64_t x) { return __builtin_popcountll(x); }
-
-uint64_t plan(uint64_t n, uint64_t source, const uint64_t *targets, size_t k, uint64_t *places, size_t room, uint64_t *counts, size_t counted) {
-  return gustparsley_plan_places(1, n, source, targets, k, places, room, counts, counted);
-}
 
 [[noreturn]] void fail(const char *what, uint64_t n, uint64_t source, uint64_t doors, const Words &targets) {
   std::printf("cube_fan: FAILED: %s: n %llu, source %llu, doors %llx, targets", what, (unsigned long long)n, (unsigned long long)source,
@@ -74,7 +70,7 @@ void grant(uint64_t n, uint64_t source, const Words &targets, const Words &masks
   const uint64_t all = (uint64_t{1} << n) - 1;
   for (int who = 0; who < 2; ++who) {
     Words places(k * (n + 2) + 3, kUntouched), counts(k + 2, kUntouched);
-    const auto asked = who ? reference::plan : plan;
+    const auto asked = who ? reference::plan : gustparsley_cube_plan;
     if (asked(n, source, targets.data(), k, places.data(), places.size(), counts.data(), counts.size())) fail("refused", n, source, all, targets);
     if (const char *what = judge(n, source, all, targets, places, counts)) fail(what, n, source, all, targets);
   }
@@ -133,7 +129,7 @@ void refuse(uint64_t number, uint64_t n, uint64_t source, uint64_t doors, const 
     Words places(room, kUntouched), counts(counted, kUntouched);
     const uint64_t told = through ? gustparsley_cube_plan_through(n, source, doors, targets.data(), targets.size(), places.data(), room,
                                                                   counts.data(), counted)
-                                  : plan(n, source, targets.data(), targets.size(), places.data(), room, counts.data(), counted);
+                                  : gustparsley_cube_plan(n, source, targets.data(), targets.size(), places.data(), room, counts.data(), counted);
     if (told != number) fail("another number", n, source, doors, targets);
     if (places != Words(room, kUntouched) || counts != Words(counted, kUntouched)) fail("a refusal writes", n, source, doors, targets);
   }
@@ -176,7 +172,7 @@ int main() {
   // only one fan is possible from 0 to 3 and 1 in the cube of 2 dimensions
   Words places(8, kUntouched), counts(2, kUntouched);
   const Words targets{3, 1};
-  plan(2, 0, targets.data(), 2, places.data(), 8, counts.data(), 2);
+  gustparsley_cube_plan(2, 0, targets.data(), 2, places.data(), 8, counts.data(), 2);
   if (places != Words{0, 2, 3, kFiller, 0, 1, kFiller, kFiller} || counts != Words{2, 1}) fail("case G", 2, 0, 3, targets);
   std::printf("cube_fan: %ld fans judged\n", fans);
 }

@@ -1,92 +1,14 @@
 // The calls for C and C++ compared with tests/host_model.hpp: every kind of good and bad input, guard bytes around every buffer, and every slice compared
 // afterwards with what it should hold. `host small` runs a part, for a slow machine such as valgrind's.
-#include "gustparsley.h"
-#include "host_model.hpp"
+#include "host_checks.hpp"
 
-#include <cstdio>
-#include <cstdlib>
 #include <cstring>
-#include <map>
-#include <random>
-#include <string>
 
 namespace {
-
-using model::Bytes;
-using model::Mesh;
-using model::Told;
-using model::Words;
-
-bool small = false;
-unsigned long long compared = 0;
-std::mt19937_64 dice(7);
-
-// The numbers that each call was met with.
-std::map<std::string, std::set<uint64_t>> met;
-
-uint64_t below(uint64_t n) { return n ? dice() % n : 0; }
-
-[[noreturn]] void fail(const char *what, const Mesh &mesh, uint64_t source, uint64_t got, uint64_t want) {
-  std::printf("host: FAILED: %s: kind %llu, size %llu, source %llu: got %llu, should be %llu\n", what, (unsigned long long)mesh.kind,
-              (unsigned long long)mesh.size, (unsigned long long)source, (unsigned long long)got, (unsigned long long)want);
-  std::exit(1);
-}
-
-void same(const char *what, const Mesh &mesh, uint64_t source, uint64_t got, uint64_t want) {
-  ++compared;
-  if (got != want) fail(what, mesh, source, got, want);
-}
-
-// The number that a call told.
-void numbered(const char *call, const Mesh &mesh, uint64_t source, uint64_t got, uint64_t want) {
-  same(call, mesh, source, got, want);
-  met[call].insert(got);
-}
-
-// A buffer of n elements with guards around it; what it held at first is kept.
-template <class T>
-class Lent {
- public:
-  explicit Lent(size_t n) : n_(n), all_(n + 2 * kGuard) {
-    for (auto &x : all_) x = static_cast<T>(dice());
-    was_ = all_;
-  }
-  explicit Lent(const std::vector<T> &held) : Lent(held.size()) {
-    std::copy(held.begin(), held.end(), all_.begin() + kGuard);
-    was_ = all_;
-  }
-  T *data() { return all_.data() + kGuard; }
-  size_t size() const { return n_; }
-  std::vector<T> now() const { return {all_.begin() + kGuard, all_.end() - kGuard}; }
-  // Whether the buffer begins with `front` and is else as it was, guards too.
-  bool holds(const std::vector<T> &front) const {
-    std::vector<T> want = was_;
-    std::copy(front.begin(), front.end(), want.begin() + kGuard);
-    return all_ == want;
-  }
-  bool untouched() const { return all_ == was_; }
-
- private:
-  static constexpr size_t kGuard = 8;
-  size_t n_;
-  std::vector<T> all_, was_;
-};
-
-void held(const char *what, bool ok, const Mesh &mesh, uint64_t source) {
-  ++compared;
-  if (!ok) fail(what, mesh, source, 0, 1);
-}
 
 Bytes bytes_of(const Words &words) {
   Bytes all;
   for (uint64_t x : words) model::put(all, x, 8);
-  return all;
-}
-
-std::vector<Mesh> meshes() {
-  std::vector<Mesh> all;
-  for (uint64_t n = 1; n <= 32; ++n) all.push_back({1, n});
-  for (uint64_t m = 1; m <= 5; ++m) all.push_back({2, m});
   return all;
 }
 
@@ -110,13 +32,6 @@ void facts() {
 }
 
 // ---- a source and a target
-
-void answered(const char *what, const Mesh &mesh, uint64_t s, const GustAnswer &a, const Told &told, uint64_t value) {
-  numbered(what, mesh, s, a.number, told.number);
-  same(what, mesh, s, a.path, told.path);
-  same(what, mesh, s, a.place, told.place);
-  same(what, mesh, s, a.value, told.number ? 0 : value);
-}
 
 void next_hop(const Mesh &mesh, uint64_t s, uint64_t t, size_t room) {
   Lent<uint8_t> out(room);
@@ -518,20 +433,6 @@ void sheets() {
   }
 }
 
-// Every call was met with every number that it can tell.
-void all_met() {
-  const std::set<uint64_t> pair{0, 1, 2, 5}, routed{0, 1, 2, 5, 8}, found{0, 1, 2, 3, 4, 5, 6, 7, 8, 20, 21, 22, 23, 24, 25};
-  const std::map<std::string, std::set<uint64_t>> every{
-      {"facts", {0, 1}},         {"linked", pair},    {"next hop", routed}, {"route", routed},      {"distance", {0, 1, 2, 5, 9}},
-      {"plan", {0, 1, 2, 3, 4, 5, 6, 7, 8, 10}}, {"judge", found}, {"survivors", found}, {"writer", {0, 8, 35}},
-      {"reader", {0, 8, 30, 31, 32, 33, 34, 35, 36}}};
-  for (const auto &[call, numbers] : every)
-    if (met[call] != numbers) {
-      std::printf("host: FAILED: %s was met with %zu of %zu numbers\n", call.c_str(), met[call].size(), numbers.size());
-      std::exit(1);
-    }
-}
-
 }  // namespace
 
 int main(int count, char **words) {
@@ -544,7 +445,18 @@ int main(int count, char **words) {
   wrapper();
   fans();
   sheets();
-  if (!small) all_met();
+  const std::set<uint64_t> pair{0, 1, 2, 5}, routed{0, 1, 2, 5, 8}, found{0, 1, 2, 3, 4, 5, 6, 7, 8, 20, 21, 22, 23, 24, 25};
+  if (!small)
+    all_met({{"facts", {0, 1}},
+             {"linked", pair},
+             {"next hop", routed},
+             {"route", routed},
+             {"distance", {0, 1, 2, 5, 9}},
+             {"plan", {0, 1, 2, 3, 4, 5, 6, 7, 8, 10}},
+             {"judge", found},
+             {"survivors", found},
+             {"writer", {0, 8, 35}},
+             {"reader", {0, 8, 30, 31, 32, 33, 34, 35, 36}}});
   std::printf("host: %llu comparisons, all the same\n", compared);
   return 0;
 }

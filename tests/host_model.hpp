@@ -113,6 +113,12 @@ struct Mesh {
     return {};
   }
 
+  // 1, 2, 5, 6 of the two ends of a bundle.
+  Told ends(uint64_t s, uint64_t t) const {
+    if (const uint64_t number = pair(s, t, false)) return {number, 0, 0};
+    return {s == t ? uint64_t{6} : 0, 0, 0};
+  }
+
   uint64_t most(size_t k) const { return 16 + k * (2 + 8 * longest()); }
 
   // What the judge says; `lacking` where another lent slice is too short.
@@ -138,6 +144,37 @@ struct Mesh {
       for (size_t p = h + 1; p < w; ++p)
         if (path[p] != kUnused) return {25, i, p};
       earlier.insert(own.begin(), own.end());
+    }
+    return {};
+  }
+
+  // What the judge says of a bundle. A relay may not stand twice on a path, nor on an earlier path too, but for the two ends at their own places; and one path at
+  // most is the bare link.
+  Told judge_bundle(uint64_t s, uint64_t t, const Words &places, const Words &counts, bool lacking = false) const {
+    const Told asked = ends(s, t);
+    if (asked.number) return asked;
+    const size_t k = links(), w = longest() + 2;
+    if (lacking || places.size() < k * w || counts.size() < k) return {8, 0, 0};
+    std::set<uint64_t> earlier;
+    bool bare = false;
+    for (size_t i = 0; i < k; ++i) {
+      const uint64_t *path = places.data() + i * w;
+      const uint64_t h = counts[i];
+      if (h > longest() + 1) return {20, i, 0};
+      if (path[0] != s) return {21, i, 0};
+      for (size_t p = 1; p <= h; ++p)
+        if (path[p] >= relays() || !linked(path[p - 1], path[p])) return {22, i, p};
+      if (path[h] != t) return {23, i, h};
+      std::set<uint64_t> own;
+      for (size_t p = 0; p <= h; ++p) {
+        if (!own.insert(path[p]).second) return {24, i, p};
+        if (p != 0 && p != h && earlier.count(path[p])) return {24, i, p};
+        if (p == 1 && h == 1 && bare) return {24, i, p};
+      }
+      for (size_t p = h + 1; p < w; ++p)
+        if (path[p] != kUnused) return {25, i, p};
+      earlier.insert(own.begin(), own.end());
+      bare = bare || h == 1;
     }
     return {};
   }

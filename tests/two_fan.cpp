@@ -1,15 +1,13 @@
 // The two-level planner judged: each fan relay by relay, from the specification's words; each refusal by its number. Slices are lent out of the middle
 // of others, and what lies around them and beyond the fan is looked at after each call. The planner of the benchmark is held to the same judge.
 #include "../bench/two_planner.hpp"
+#include "gustparsley.h"
 
 #include <algorithm>
 #include <cstdio>
 #include <cstdlib>
 #include <random>
 #include <vector>
-
-extern "C" uint64_t gustparsley_plan_places(uint64_t kind, uint64_t size, uint64_t source, const uint64_t *targets, size_t k, uint64_t *places,
-                                            size_t room, uint64_t *counts, size_t counted);
 
 namespace {
 
@@ -97,7 +95,7 @@ void grant(const Two &mesh, uint64_t source, const Words &targets, size_t more =
     Lent places(k * mesh.places() + more), counts(k + more);
     const uint64_t told =
         who ? reference::plan_two(mesh.m, source, targets.data(), k, places.data(), places.size(), counts.data(), counts.size())
-            : gustparsley_plan_places(2, mesh.m, source, targets.data(), k, places.data(), places.size(), counts.data(), counts.size());
+            : gust_fan(2, mesh.m, source, targets.data(), k, places.data(), places.size(), counts.data(), counts.size()).number;
     if (told) fail(who ? "refused by the benchmark's" : "refused", 2, mesh.m, source, targets);
     if (const char *what = judge(mesh, source, targets, places.data(), counts.data())) fail(what, who ? 99 : 2, mesh.m, source, targets);
     if (!places.untouched_from(k * mesh.places()) || !counts.untouched_from(k)) fail("something beyond the fan is changed", 2, mesh.m, source, targets);
@@ -157,7 +155,7 @@ void some(const Two &mesh, int rounds, std::mt19937_64 &random) {
 // A request that is to be refused, with the slices untouched.
 void refuse(uint64_t number, uint64_t kind, uint64_t size, uint64_t source, const Words &targets, size_t room, size_t counted) {
   Lent places(room), counts(counted);
-  if (gustparsley_plan_places(kind, size, source, targets.data(), targets.size(), places.data(), room, counts.data(), counted) != number)
+  if (gust_fan(kind, size, source, targets.data(), targets.size(), places.data(), room, counts.data(), counted).number != number)
     fail("another number", kind, size, source, targets);
   if (!places.untouched_from(0) || !counts.untouched_from(0)) fail("a refusal writes", kind, size, source, targets);
   ++refusals;

@@ -97,6 +97,10 @@ distanceFaults undistanced = fault undistanced NoDistance ∷ []
 abbrev pub pairFaults : (relays source target : ℕ) → List Fault
 pairFaults relays s t = fault (leb relays s) SourceOut ∷ fault-at (pick (leb relays t) (at 0) nowhere) TargetOut ∷ []
 
+-- 2, 5, 6: of a source and one target that is to be another relay
+abbrev pub endFaults : (relays source target : ℕ) → List Fault
+endFaults relays s t = pairFaults relays s t ++ fault-at (pick (eqb t s) (at 0) nowhere) TargetIsSource ∷ []
+
 -- the target at place j is no relay, is the source, stands earlier in the list
 abbrev pub isOut : (relays : ℕ) (targets : List ℕ) (j : ℕ) → Bool
 isOut relays targets j = leb relays (getD targets j 0)

@@ -12,7 +12,7 @@ use Rattle.mesh.specs.Kinds.{Kind}
 use Rattle.mesh.specs.Says as mesh
 use Rattle.cube_plan.specs.Says as doors
 use Rattle.line.specs.Says.{lineFaults}
-use Rattle.host.specs.Says.{planFaults}
+use Rattle.region.specs.Says.{planFaults}
 
 abbrev Ordered : List Fault → Type 0
 Ordered l = inOrder l ≡ true
@@ -27,8 +27,9 @@ pub record Orders : Type 0 where
   pub cube-pairs : (n s t : ℕ) (room : Bool) → Ordered (cube.pairFaultsIn n s t room)
   pub two-pairs : (m s t : ℕ) (room : Bool) → Ordered (two.pairFaultsIn m s t room)
   pub two-distance : (m s t : ℕ) → Ordered (far.distanceFaultsIn m s t)
-  -- planner, judge and survivors; the cube's planner, and through doors
+  -- planner, judge and survivors, of fans and of bundles; the cube's planner, and through doors
   pub requests : (K : Kind) (n s : ℕ) (targets : List ℕ) (room : Bool) → Ordered (mesh.requestFaultsIn K n s targets room)
+  pub bundles : (K : Kind) (n s t : ℕ) (room : Bool) → Ordered (mesh.bundleFaultsIn K n s t room)
   pub cube-plan : (n s : ℕ) (targets places counts : List ℕ) → Ordered (doors.planFaults n s targets places counts)
   pub through : (n s d : ℕ) (targets places counts : List ℕ) → Ordered (doors.throughFaults n s d targets places counts)
   -- a line of text; the host's plan
@@ -44,6 +45,7 @@ orders = record {
   two-pairs = λ m s t room. refl;
   two-distance = λ m s t. refl;
   requests = λ K n s targets room. refl;
+  bundles = λ K n s t room. refl;
   cube-plan = λ n s targets places counts. refl;
   through = λ n s d targets places counts. refl;
   line = λ unreadable room. refl;

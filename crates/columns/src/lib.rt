@@ -1,12 +1,24 @@
-// The columns of a fan's paths, one for each part of an entry. Inner functions of survivors.
+// The columns of the paths of a fan or a bundle, one for each part of an entry. Inner functions of survivors.
 ghost use mathlib.Core.Path.{_≡_};
 ghost use lib.ListN.{length, take};
 ghost use Rattle.scan.specs.Scan.{pick, count};
 ghost use Rattle.paths.specs.Whole as specs;
 ghost use Rattle.paths.specs.Whole.{failed};
 ghost use Rattle.judge_rows.specs.Needs.{Held};
+ghost use Rattle.mesh.specs.Kinds.{kindOf};
 ghost use Rattle.columns.specs.Needs.{Copied, Marked, Filled};
-ghost use Rattle.columns.specs.Says.{ahead, marks, Columns};
+ghost use Rattle.columns.specs.Says.{bundlePaths, ahead, marks, Columns};
+use mesh::Mesh;
+
+// How many paths a bundle has: as many as a relay has links, and none where there is no such mesh.
+pub fn bundle_paths(mesh: Mesh) -> usize
+    ensures { λ r. ⌜ r ≡ bundlePaths (kindOf (mesh .kind)) (mesh .size) ⌝ }
+{
+    if mesh.known() {
+        return mesh::links_in(mesh) as usize;
+    }
+    0
+}
 
 // Whether no relay on path i has stopped.
 fn whole(w: usize, places: &[u64], counts: &[u64], stopped: &[u64], i: usize) -> bool

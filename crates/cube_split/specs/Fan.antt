@@ -10,7 +10,7 @@ use lib.ListN.{length, getD, set, replicate, List·getD-eq-default}
 use lib.Seq.{sets, getD-set-same, getD-set-other}
 use Rattle.bits.specs.Bit.{bit}
 use Rattle.bits.specs.Laws.{lt-or-le, same-or}
-use Rattle.scan.specs.Runs.{filled-in, filled-out}
+use Rattle.scan.specs.Runs.{Shifted, filled-in, filled-out}
 use Rattle.paths.specs.Fan as fan
 use Rattle.paths.specs.Lists.{ahead, ahead-at, ahead-length, Laid}
 use Rattle.cube_math.specs.Doors.{Doors}
@@ -47,33 +47,7 @@ begun-more w targets r g h k a lt b = record {
 pub begun-all : {w : ℕ} {targets : List ℕ} {r k : ℕ} {g h : List ℕ} → r ≡ k → Begun w targets r g h → Begun w targets k g h
 begun-all {w} {targets} {r} {k} {g} {h} e a = subst (λ (y : ℕ). Begun w targets y g h) e a
 
--- ---- numbers moved, and filler
-
-pub record Shifted (to from n : ℕ) (before after : List ℕ) : Type 0 where
-  pub is : (q : ℕ) → q < n → getD after (to + q) 0 ≡ getD before (from + q) 0
-  pub rest : (i : ℕ) → (i < to) ⊎ (to + n ≤ i) → getD after i 0 ≡ getD before i 0
-
-pub shifted-none : (to from n : ℕ) (l : List ℕ) → n ≡ 0 → Shifted to from n l l
-shifted-none to from n l e = record { is = λ q h. absurd (omega arith); rest = λ i h. refl }
-
-pub shifted-more : (to from n : ℕ) (l m : List ℕ) → Shifted to from n l m → to ≤ from → to + n < length m
-    → Shifted to from (n + 1) l (set m (to + n) (getD m (from + n) 0))
-shifted-more to from n l m a le h = record {
-  is = λ q r. ⊎-elim
-      (λ e. subst (λ (y : ℕ). getD new (to + y) 0 ≡ getD l (from + y) 0) (sym e)
-      (getD-set-same m (to + n) (getD m (from + n) 0) 0 h ∙ a .rest (from + n) (inr (omega arith))))
-      (λ ne. other (to + q) (λ e. ne (omega arith)) ∙ a .is q (under q n r ne)) (same-or q n);
-  rest = λ i r. other i (λ e. ⊎-elim (λ (y : i < to). omega arith) (λ y. omega arith) r) ∙ a .rest i (⊎-elim inl (λ y. inr (omega arith)) r);
-}
-  where
-    new : List ℕ
-    new = set m (to + n) (getD m (from + n) 0)
-
-    other : (i : ℕ) → i ≢ to + n → getD new i 0 ≡ getD m i 0
-    other i ne = getD-set-other m (to + n) i (getD m (from + n) 0) 0 ne
-
-pub shifted-all : {to from q n : ℕ} {l m : List ℕ} → q ≡ n → Shifted to from q l m → Shifted to from n l m
-shifted-all {to} {from} {q} {n} {l} {m} e a = subst (λ (y : ℕ). Shifted to from y l m) e a
+-- ---- filler
 
 pub record Filled (from to : ℕ) (before after : List ℕ) : Type 0 where
   pub is : (i : ℕ) → from ≤ i → i < to → getD after i 0 ≡ fan.filler

@@ -4,7 +4,7 @@ ghost use mathlib.Core.Path.{_≡_};
 ghost use Prim.Native.Nat.{ℕ, _+_, _-_, _*_, _^_, _<_, _≤_};
 ghost use lib.ListN.{length, getD};
 ghost use Rattle.cube_split.specs.Plan.{Asked, Planned};
-ghost use Rattle.cube_split.specs.Fan.{Begun, Shifted, Settled, Spread, Sought, Given};
+ghost use Rattle.cube_split.specs.Fan.{Begun, Settled, Spread, Sought, Given};
 use paths::FILLER;
 
 // Paths from s to the targets of the rows m, in the dimensions `free`, through doors that are not shut.
@@ -53,25 +53,13 @@ fn begin(targets: &[u64], w: usize, grid: &mut [u64])
     }
 }
 
-// Moves n numbers to the front, from `from` to `to`.
-fn shift(places: &mut [u64], to: usize, from: usize, n: usize)
-    requires { ⌜ (to ≤ from) × (from + n ≤ length (now places)) ⌝ }
-    ensures { λ _. ⌜ Shifted to from n (now (places .entry)) (now (places .exit)) ⌝ }
-{
-    let mut q: usize = 0;
-    while q < n {
-        places[to + q] = places[from + q];
-        q += 1;
-    }
-}
-
 // The row at the place `at` becomes a path as it is lent: its source, its relays, filler. Returns its hops.
 fn settle(s: u64, w: usize, at: usize, places: &mut [u64]) -> u64
     requires { ⌜ (getD (now places) at 0 < w) × (at + w ≤ length (now places)) ⌝ }
     ensures { λ r. ⌜ Settled s w at (now (places .entry)) (now (places .exit)) r ⌝ }
 {
     let n = places[at];
-    shift(places, at + 1, at + w - n as usize, n as usize);
+    scan::shift(places, at + 1, at + w - n as usize, n as usize);
     scan::fill(places, at + 1 + n as usize, w - 1 - n as usize, FILLER);
     places[at] = s;
     n

@@ -1,14 +1,13 @@
--- The columns of a fan's paths, gathered for so many entries (`Gathers`), and how many there are to write.
+-- The columns of the paths of a fan or a bundle, gathered for so many entries (`Gathers`), and how many there are to write. Definitions; assumes nothing.
 use Prim.Native.Nat.{ℕ, _≤_, _<_}
 use mathlib.Core.Path.{_≡_}
 use mathlib.Core.List.{List, _++_}
 use lib.Dec.{eqb, ltb}
 use lib.ListN.{length, drop, getD}
 use Rattle.scan.specs.Scan.{pick}
-use Rattle.paths.specs.Mesh.{width}
 use Rattle.paths.specs.Whole.{Failed}
-use Rattle.mesh.specs.Kinds.{Kind}
 use Rattle.mesh.specs.Limits.{mostLinks}
+use Rattle.judge.specs.Says.{Asked}
 use Rattle.survivors.specs.Tally.{tallyTold}
 use Rattle.survivors.specs.declared.Tally.{Tally}
 use Rattle.survivors.specs.declared.Tally.the-variants as tally
@@ -34,10 +33,10 @@ takenOf (tally.Refused why) k = 0
 abbrev pub entryAt : Gathered → ℕ → Entry
 entryAt g i = entryOf (getD (g .ends) i 0) (getD (g .hops) i 0) (eqb (getD (g .wholes) i 0) 1)
 
-pub record Gathers (K : Kind) (n s : ℕ) (targets places counts : List ℕ) (fails : Failed) (room : ℕ) (g : Gathered) : Type 0 where
-  pub told : tallyTold (g .tally) ≡ listedTold K n s targets places counts fails room
-  pub taken : g .k ≡ settle K n s targets places counts fails room (length targets) 0
-  pub each : (i : ℕ) → i < g .k → entryAt g i ≡ pathEntry (width (K .mesh n)) targets places counts fails i
+pub record Gathers (q : Asked) (places counts : List ℕ) (fails : Failed) (room : ℕ) (g : Gathered) : Type 0 where
+  pub told : tallyTold (g .tally) ≡ listedTold q places counts fails room
+  pub taken : g .k ≡ settle q places counts fails room (length (q .targets)) 0
+  pub each : (i : ℕ) → i < g .k → entryAt g i ≡ pathEntry q places counts fails i
   pub small : g .k ≤ MOST
   pub fits : g .k ≤ room
 

@@ -7,23 +7,22 @@ use mathlib.Core.List.{List, [], _∷_, _++_}
 use mathlib.Core.Option.{Option, none, some}
 use native.Mathlib.Omega.{arith}
 use lib.Dec.{eqb, ltb}
-use lib.ListN.{length, take, drop, getD, length-append, List·getD-append}
+use lib.ListN.{length, take, drop, getD, length-append, length-replicate, List·getD-append}
 use lib.Seq.{getD-take, length-take-le}
 use borrow.Author.Tests.{le-ltb, ltb-true, ltb-false}
 use Rattle.scan.specs.Scan.{pick, count}
-use Rattle.answers.specs.Order.{refuse, before}
+use Rattle.answers.specs.Order as order
 use Rattle.answers.specs.declared.Refusal.{Refusal}
-use Rattle.answers.specs.declared.Refusal.the-variants.{NoRoom}
-use Rattle.paths.specs.Mesh.{width}
+use Rattle.paths.specs.Rules.{span}
 use Rattle.paths.specs.Fan.{hops}
-use Rattle.paths.specs.Finding.{Finding, clean, found, finding}
+use Rattle.paths.specs.Finding.{Finding, clean, found}
 use Rattle.paths.specs.Whole.{Failed, whole}
-use Rattle.mesh.specs.Kinds.{Kind, kindOf}
+use Rattle.mesh.specs.Kinds.{kindOf, meshOf}
 use Rattle.mesh.specs.Limits.{known-links}
-use Rattle.mesh.specs.Says.{requestAgainst, short}
-use Rattle.mesh.specs.Requests.{Fine, request-room, request-fine, request-passed, neither-wanting, room-enough}
-use Rattle.judge.specs.Says.{numberOf, rule, judgeAgainst, verdictTold}
-use Rattle.judge.specs.Numbers.{Numbered, finding-numbered, found-number, refused-number, rule-clean}
+use Rattle.mesh.specs.Requests.{request-fine, ends-fine}
+use Rattle.judge.specs.Says.{numberOf, rule, verdictTold, Asked, fanAsked, bundleAsked, askedAgainst, askedFinding}
+use Rattle.judge.specs.Asked.{Passed, asked-alike, asked-passed}
+use Rattle.judge.specs.Numbers.{Numbered, findings-numbered, found-number, refused-number, rule-clean}
 use Rattle.columns.specs.Says.{ahead, marks}
 use Rattle.columns.specs.Laws.{marks-at, marks-length}
 use Rattle.survivors.specs.Tally.{tallied, rulingOf, verdictOf, tallyTold}
@@ -53,24 +52,21 @@ few-capped k room h = few-alike k (pick (ltb room MOST) room MOST) ∙ go (ltb r
     go true e = refl
     go false e = let l = ltb-false room MOST e in simp (le-ltb MOST k h, le-ltb room k (omega arith))
 
--- where 1 to 7 stand against a request, room does not matter; else it has no more targets than that
-against-same : (kind n s : ℕ) (targets : List ℕ) (a b : Bool) → (length targets ≤ MOST → a ≡ b) → requestAgainst (kindOf kind) n s targets a ≡ requestAgainst (kindOf kind) n s targets b
-against-same kind n s targets a b same =
-    request-room (kindOf kind) n s targets a
-    ∙ go (requestAgainst (kindOf kind) n s targets false) refl
-    ∙ sym (request-room (kindOf kind) n s targets b)
-  where
-    go : (o : Option Refusal) → requestAgainst (kindOf kind) n s targets false ≡ o → before o (refuse a NoRoom none) ≡ before o (refuse b NoRoom none)
-    go none e =
-        let fine = request-fine (kindOf kind) n s targets e in
-        let small = known-links kind n (fine .known) in
-        ap (λ (x : Bool). refuse x NoRoom none) (same (omega (arith, fine .sound .few, small)))
-    go (some why) e = refl
+-- nothing but room may stand against it where there are more paths than that
+pub fan-few : (kind n s : ℕ) (targets : List ℕ) → order.first (fanAsked (kindOf kind) n s targets .faults) ≡ none → length targets ≤ MOST
+fan-few kind n s targets e =
+    let fine = request-fine (kindOf kind) n s targets e in
+    omega (arith, fine .sound .few, known-links kind n (fine .known))
+
+pub bundle-few : (kind n s t : ℕ) → order.first (bundleAsked (kindOf kind) n s t .faults) ≡ none → length (bundleAsked (kindOf kind) n s t .targets) ≤ MOST
+bundle-few kind n s t e =
+    let fine = ends-fine (kindOf kind) n s t e in
+    omega (arith, length-replicate (meshOf kind n .links) t, known-links kind n (fine .known))
 
 -- ---- what a tally comes with
 
 module _ (o : Option Refusal) (f : Finding) (numbered : Numbered f) where
-  -- entries come with a fan only
+  -- entries come only where nothing is found
   taken-clean : (t : Tally) (k i : ℕ) → verdictTold (verdictOf t) ≡ rule o f → i < takenOf t k → (o ≡ none) × (f ≡ clean)
   taken-clean (tally.Whole c) k i e h = rule-clean o f numbered e
   taken-clean (tally.Found x) k i e h = absurd (omega arith)
@@ -81,13 +77,19 @@ module _ (o : Option Refusal) (f : Finding) (numbered : Numbered f) where
   taken-settled (tally.Found x) k e = sym (settled-not k 0 o f (λ y. found-number x (ap numberOf e ∙ y)))
   taken-settled (tally.Refused why) k e = sym (settled-not k 0 o f (λ y. refused-number why (ap numberOf e ∙ y)))
 
+-- what is taken is the same of as many paths, where entries come
+taken-same : (t : Tally) (k j : ℕ) → ((c : ℕ) → t ≡ tally.Whole c → k ≡ j) → takenOf t k ≡ takenOf t j
+taken-same (tally.Whole c) k j h = h c refl
+taken-same (tally.Found x) k j h = refl
+taken-same (tally.Refused why) k j h = refl
+
 -- what is taken is no more than the paths are, where entries come
 taken-most : (t : Tally) (k most : ℕ) → ((c : ℕ) → t ≡ tally.Whole c → k ≤ most) → takenOf t k ≤ most
 taken-most (tally.Whole c) k most h = h c refl
 taken-most (tally.Found x) k most h = omega arith
 taken-most (tally.Refused why) k most h = omega arith
 
--- ---- the columns of a fan, as entries
+-- ---- the columns as entries
 
 mark-whole : (b : Bool) → eqb (pick b 1 0) 1 ≡ b
 mark-whole true = refl
@@ -134,68 +136,60 @@ capped-most room {m} e = rw e (go (ltb room MOST) refl)
 pub capped-length : (room : ℕ) (zeros : List ℕ) {m : ℕ} → length zeros ≡ MOST → m ≡ capped room → length (take m zeros) ≡ m
 capped-length room zeros {m} z e = length-take-le m zeros (omega (arith, capped-most room e, z))
 
-module _ (kind n s : ℕ) (targets places counts : List ℕ) (fails : Failed) (room m : ℕ) (t : Tally) (zeros ends₁ hops₁ wholes₁ : List ℕ) (z : length zeros ≡ MOST) (cap : m ≡ capped room)
-    (p : Survived (kindOf kind) n s targets places counts fails (take m zeros) (take m zeros) (take m zeros) t ends₁ hops₁ wholes₁) where
-  abbrev K : Kind
-  K = kindOf kind
-
+module _ (q : Asked) (many : order.first (q .faults) ≡ none → length (q .targets) ≤ MOST) (places counts : List ℕ) (fails : Failed) (room m : ℕ) (t : Tally)
+    (zeros ends₁ hops₁ wholes₁ : List ℕ) (z : length zeros ≡ MOST) (cap : m ≡ capped room)
+    (p : Survived q places counts fails (take m zeros) (take m zeros) (take m zeros) t ends₁ hops₁ wholes₁) where
   abbrev k : ℕ
-  k = length targets
+  k = length (q .targets)
 
   abbrev first : Finding
-  first = finding (K .mesh n) s targets places counts
-
-  abbrev cramped : Bool
-  cramped = short (K .mesh n) k (length places) (length counts)
+  first = askedFinding q places counts
 
   -- what stands against the columns that were lent, and against the list of entries
   abbrev lent : Option Refusal
-  lent = judgeAgainst K n s targets places counts (lacking targets (take m zeros) (take m zeros) (take m zeros))
+  lent = askedAgainst q places counts (lacking (q .targets) (take m zeros) (take m zeros) (take m zeros))
 
   abbrev asked : Option Refusal
-  asked = judgeAgainst K n s targets places counts (ltb room k)
+  asked = askedAgainst q places counts (ltb room k)
 
   against : lent ≡ asked
   against =
       let long : length (take m zeros) ≡ capped room = capped-length room zeros z cap ∙ cap in
-      against-same kind n s targets _ _ (λ h. ap (λ (b : Bool). pick b true cramped) (ap (λ (l : ℕ). few k l l l) long ∙ few-capped k room h))
+      asked-alike q places counts _ _ (λ e. ap (λ (l : ℕ). few k l l l) long ∙ few-capped k room (many e))
 
-  told : tallyTold t ≡ listedTold K n s targets places counts fails room
-  told = p .told ∙ ap (λ (o : Option Refusal). tallied (rule o first) (settled o first (count (whole (width (K .mesh n)) places counts fails) k) 0)) against
+  told : tallyTold t ≡ listedTold q places counts fails room
+  told = p .told ∙ ap (λ (o : Option Refusal). tallied (rule o first) (settled o first (count (whole (span (q .rules)) places counts fails) k) 0)) against
 
   ruled : verdictTold (verdictOf t) ≡ rule asked first
   ruled = ap rulingOf told
 
   numbered : Numbered first
-  numbered = finding-numbered (K .mesh n) s targets places counts
+  numbered = findings-numbered (q .rules) (q .source) (q .targets) places counts
 
   module _ (none-against : asked ≡ none) (none-found : first ≡ clean) where
-    passed : Fine K n s targets × (pick (ltb room k) true cramped ≡ false)
-    passed = request-passed K n s targets (pick (ltb room k) true cramped) none-against
+    passed : Passed q (length places) (length counts) (ltb room k)
+    passed = asked-passed q places counts (ltb room k) none-against
 
-    roomy : (ltb room k ≡ false) × (cramped ≡ false)
-    roomy = neither-wanting (ltb room k) cramped refl (passed .1)
-
-    room-for : (k ≤ MOST) × (k ≤ room) × (k ≤ length counts)
-    room-for =
-        (omega (arith, passed .0 .sound .few, known-links kind n (passed .0 .known)), ltb-false room k (roomy .0), room-enough (K .mesh n) k (length places) (length counts) (roomy .1) .1)
+    room-for : (k ≤ MOST) × (k ≤ room)
+    room-for = (many (passed .faultless), ltb-false room k (passed .lent))
 
     given : {A : Type 0} (a b : A) → settled lent first a b ≡ a
     given a b = settled-is a b (against ∙ none-against) none-found
 
     entry-at : (i : ℕ) → i < k
-        → entryOf (getD (ends₁ ++ drop m zeros) i 0) (getD (hops₁ ++ drop m zeros) i 0) (eqb (getD (wholes₁ ++ drop m zeros) i 0) 1)
-        ≡ pathEntry (width (K .mesh n)) targets places counts fails i
+        → entryOf (getD (ends₁ ++ drop m zeros) i 0) (getD (hops₁ ++ drop m zeros) i 0) (eqb (getD (wholes₁ ++ drop m zeros) i 0) 1) ≡ pathEntry q places counts fails i
     entry-at i h =
-        let w = width (K .mesh n) in
-        let e = ap (λ (l : List ℕ). getD (l ++ drop m zeros) i 0) (p .ended ∙ given _ _) ∙ ended-at w targets places counts fails i h (take m zeros) (drop m zeros) in
-        let c = ap (λ (l : List ℕ). getD (l ++ drop m zeros) i 0) (p .hopped ∙ given _ _) ∙ hopped-at w targets places counts fails i h (room-for .2) (take m zeros) (drop m zeros) in
-        let b = ap (λ (l : List ℕ). eqb (getD (l ++ drop m zeros) i 0) 1) (p .marked ∙ given _ _) ∙ marked-at w targets places counts fails i h (take m zeros) (drop m zeros) in
+        let w = span (q .rules) in
+        let l = q .targets in
+        let e = ap (λ (l : List ℕ). getD (l ++ drop m zeros) i 0) (p .ended ∙ given _ _) ∙ ended-at w l places counts fails i h (take m zeros) (drop m zeros) in
+        let c = ap (λ (l : List ℕ). getD (l ++ drop m zeros) i 0) (p .hopped ∙ given _ _) ∙ hopped-at w l places counts fails i h (passed .counted) (take m zeros) (drop m zeros) in
+        let b = ap (λ (l : List ℕ). eqb (getD (l ++ drop m zeros) i 0) 1) (p .marked ∙ given _ _) ∙ marked-at w l places counts fails i h (take m zeros) (drop m zeros) in
         λ j. entryOf (e j) (c j) (b j)
 
-  pub gathered : {r : ℕ} → r ≡ takenOf t k
-      → Gathers K n s targets places counts fails room (record { tally = t; k = r; ends = ends₁ ++ drop m zeros; hops = hops₁ ++ drop m zeros; wholes = wholes₁ ++ drop m zeros })
-  gathered {r} e = record {
+  -- j is what code has of how many paths there are
+  pub gathered : {j r : ℕ} → (order.first (q .faults) ≡ none → j ≡ k) → r ≡ takenOf t j
+      → Gathers q places counts fails room (record { tally = t; k = r; ends = ends₁ ++ drop m zeros; hops = hops₁ ++ drop m zeros; wholes = wholes₁ ++ drop m zeros })
+  gathered {j} {r} paths f = record {
     told = told;
     taken = e ∙ taken-settled asked first numbered t k ruled;
     each = λ i h. let l : i < takenOf t k = omega (arith, h, e) in let c = taken-clean asked first numbered t k i ruled l in entry-at (c .0) (c .1) i (omega (arith, l, taken-most t k k (λ c e. omega arith)));
@@ -205,6 +199,9 @@ module _ (kind n s : ℕ) (targets places counts : List ℕ) (fails : Failed) (r
     where
       whole-clean : (c : ℕ) → t ≡ tally.Whole c → (asked ≡ none) × (first ≡ clean)
       whole-clean c w = rule-clean asked first numbered (sym (ap (λ (x : Tally). verdictTold (verdictOf x)) w) ∙ ruled)
+
+      e : r ≡ takenOf t k
+      e = f ∙ taken-same t j k (λ c w. let n = whole-clean c w in paths (passed (n .0) (n .1) .faultless))
 
 -- ---- the list that is filled
 
@@ -221,12 +218,11 @@ listed-by none clean f g k taken out e h = ap (λ (l : List Entry). l ++ drop ta
 listed-by none (found x i p) f g k taken out e h = ap (λ (j : ℕ). entries f j ++ drop j out) e
 listed-by (some why) a f g k taken out e h = ap (λ (j : ℕ). entries f j ++ drop j out) e
 
-pub listed : (K : Kind) (n s : ℕ) (targets places counts : List ℕ) (fails : Failed) (out : List Entry) {g : Gathered} {r : Tally} {out₁ : List Entry}
-    → Gathers K n s targets places counts fails (length out) g → r ≡ g .tally → out₁ ≡ entries (entryAt g) (g .k) ++ drop (g .k) out
-    → Listed K n s targets places counts fails out r out₁
-listed K n s targets places counts fails out {g} {r} {out₁} p e f = record {
+pub listed : (q : Asked) (places counts : List ℕ) (fails : Failed) (out : List Entry) {g : Gathered} {r : Tally} {out₁ : List Entry}
+    → Gathers q places counts fails (length out) g → r ≡ g .tally → out₁ ≡ entries (entryAt g) (g .k) ++ drop (g .k) out → Listed q places counts fails out r out₁
+listed q places counts fails out {g} {r} {out₁} p e f = record {
   told = ap tallyTold e ∙ p .told;
   listed = f
-      ∙ listed-by (judgeAgainst K n s targets places counts (ltb (length out) (length targets))) (finding (K .mesh n) s targets places counts)
-      (entryAt g) (pathEntry (width (K .mesh n)) targets places counts fails) (length targets) (g .k) out (p .taken) (p .each);
+      ∙ listed-by (askedAgainst q places counts (ltb (length out) (length (q .targets)))) (askedFinding q places counts) (entryAt g) (pathEntry q places counts fails)
+      (length (q .targets)) (g .k) out (p .taken) (p .each);
 }

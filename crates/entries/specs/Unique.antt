@@ -10,12 +10,10 @@ use lib.Dec.{ltb}
 use lib.ListN.{length, drop, getD, List·getD-append}
 use lib.Seq.{getD-at}
 use Rattle.scan.specs.Scan.{count}
-use Rattle.paths.specs.Mesh.{width}
-use Rattle.paths.specs.Finding.{finding}
+use Rattle.paths.specs.Rules.{span}
 use Rattle.paths.specs.Whole.{Failed, whole}
-use Rattle.mesh.specs.Kinds.{Kind}
-use Rattle.judge.specs.Says.{verdictTold, judgeAgainst, judgeTold}
-use Rattle.judge.specs.Numbers.{finding-numbered, rule-clean}
+use Rattle.judge.specs.Says.{verdictTold, Asked, askedAgainst, askedFinding, askedTold}
+use Rattle.judge.specs.Numbers.{findings-numbered, rule-clean}
 use Rattle.survivors.specs.Tally.{tallied, rulingOf, verdictOf}
 use Rattle.survivors.specs.Says.{few, settled, Survived}
 use Rattle.survivors.specs.Laws.{settled-is}
@@ -27,25 +25,25 @@ use Rattle.entries.specs.Filling.{entries-length}
 use Rattle.entries.specs.Laws.{few-alike}
 use Rattle.entries.specs.declared.Entry.{Entry}
 
-pub listed-unique : (K : Kind) (n s : ℕ) (targets places counts : List ℕ) (fails : Failed) (out : List Entry) (a b : Tally) (out₁ out₂ : List Entry)
-    → Listed K n s targets places counts fails out a out₁ → Listed K n s targets places counts fails out b out₂ → (a ≡ b) × (out₁ ≡ out₂)
-listed-unique K n s targets places counts fails out a b out₁ out₂ p q = (tally-unique a b (p .told ∙ sym (q .told)), p .listed ∙ sym (q .listed))
+pub listed-unique : (q : Asked) (places counts : List ℕ) (fails : Failed) (out : List Entry) (a b : Tally) (out₁ out₂ : List Entry)
+    → Listed q places counts fails out a out₁ → Listed q places counts fails out b out₂ → (a ≡ b) × (out₁ ≡ out₂)
+listed-unique q places counts fails out a b out₁ out₂ p r = (tally-unique a b (p .told ∙ sym (r .told)), p .listed ∙ sym (r .listed))
 
 -- the columns are each as long as the list
-pub listed-agrees : (K : Kind) (n s : ℕ) (targets places counts : List ℕ) (fails : Failed) (ends hops wholes : List ℕ) (out : List Entry) (a b : Tally) (out₁ : List Entry) (ends₁ hops₁ wholes₁ : List ℕ)
+pub listed-agrees : (q : Asked) (places counts : List ℕ) (fails : Failed) (ends hops wholes : List ℕ) (out : List Entry) (a b : Tally) (out₁ : List Entry) (ends₁ hops₁ wholes₁ : List ℕ)
     → length ends ≡ length out → length hops ≡ length out → length wholes ≡ length out
-    → Listed K n s targets places counts fails out a out₁ → Survived K n s targets places counts fails ends hops wholes b ends₁ hops₁ wholes₁ → a ≡ b
-listed-agrees K n s targets places counts fails ends hops wholes out a b out₁ ends₁ hops₁ wholes₁ e h w p q =
-    let k = length targets in
+    → Listed q places counts fails out a out₁ → Survived q places counts fails ends hops wholes b ends₁ hops₁ wholes₁ → a ≡ b
+listed-agrees q places counts fails ends hops wholes out a b out₁ ends₁ hops₁ wholes₁ e h w p r =
+    let k = length (q .targets) in
     let alike : few k (length ends) (length hops) (length wholes) ≡ ltb (length out) k = rw e (rw h (rw w (few-alike k (length out)))) in
     tally-unique a b
     (p .told
     ∙ sym
-    (q .told
+    (r .told
     ∙ ap
     (λ (x : Bool).
-    tallied (judgeTold K n s targets places counts x)
-    (settled (judgeAgainst K n s targets places counts x) (finding (K .mesh n) s targets places counts) (count (whole (width (K .mesh n)) places counts fails) k) 0))
+    tallied (askedTold q places counts x)
+    (settled (askedAgainst q places counts x) (askedFinding q places counts) (count (whole (span (q .rules)) places counts fails) k) 0))
     alike))
 
 entries-at : (f : ℕ → Entry) (k i : ℕ) (d : Entry) → i < k → getD (entries f k) i d ≡ f i
@@ -57,17 +55,15 @@ entries-at f (suc k) i d h = go (ℕ-discrete i k) (λ l. entries-at f k i d l)
     go (yes e) rest = getD-at (entries f k) (f k) [] d i (entries-length f k ∙ sym e) ∙ ap f (sym e)
     go (no ne) rest = List·getD-append (entries f k) (f k ∷ []) d i (omega (arith, entries-length f k)) ∙ rest (omega arith)
 
--- entry i of a fan that was counted
-pub listed-at : (K : Kind) (n s : ℕ) (targets places counts : List ℕ) (fails : Failed) (out out₁ : List Entry) (r : Tally) (c i : ℕ) (d : Entry)
-    → Listed K n s targets places counts fails out r out₁ → r ≡ tally.Whole c → i < length targets
-    → getD out₁ i d ≡ pathEntry (width (K .mesh n)) targets places counts fails i
-listed-at K n s targets places counts fails out out₁ r c i d p e h =
-    let f = pathEntry (width (K .mesh n)) targets places counts fails in
-    let k = length targets in
+-- entry i of what was counted
+pub listed-at : (q : Asked) (places counts : List ℕ) (fails : Failed) (out out₁ : List Entry) (r : Tally) (c i : ℕ) (d : Entry)
+    → Listed q places counts fails out r out₁ → r ≡ tally.Whole c → i < length (q .targets) → getD out₁ i d ≡ pathEntry q places counts fails i
+listed-at q places counts fails out out₁ r c i d p e h =
+    let f = pathEntry q places counts fails in
+    let k = length (q .targets) in
     let ruled = sym (ap (λ (t : Tally). verdictTold (verdictOf t)) e) ∙ ap rulingOf (p .told) in
     let clean =
-    rule-clean (judgeAgainst K n s targets places counts (ltb (length out) k)) (finding (K .mesh n) s targets places counts)
-    (finding-numbered (K .mesh n) s targets places counts) ruled in
+    rule-clean (askedAgainst q places counts (ltb (length out) k)) (askedFinding q places counts) (findings-numbered (q .rules) (q .source) (q .targets) places counts) ruled in
     let all = p .listed ∙ settled-is (entries f k ++ drop k out) out (clean .0) (clean .1) in
     ap (λ (l : List Entry). getD l i d) all
     ∙ List·getD-append (entries f k) (drop k out) d i (omega (arith, entries-length f k, h))

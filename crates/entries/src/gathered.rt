@@ -3,6 +3,7 @@ ghost use mathlib.Core.Path.{_≡_};
 ghost use Prim.Native.Nat.{_<_};
 ghost use Rattle.paths.specs.Whole.{failed};
 ghost use Rattle.mesh.specs.Kinds.{kindOf};
+ghost use Rattle.judge.specs.Says.{fanAsked, bundleAsked};
 ghost use Rattle.entries.specs.Gathered.{MOST, capped, takenOf, entryAt, Gathers};
 use crate::Entry;
 use mesh::Mesh;
@@ -79,7 +80,7 @@ pub fn gather<'b>(
     stopped: &'b [u64],
     room: usize,
 ) -> Gathered
-    ensures { λ r. ⌜ Gathers (kindOf (mesh .kind)) (mesh .size) source (now (targets .entry)) (now (places .entry)) (now (counts .entry)) (failed (now (stopped .entry))) room r ⌝ }
+    ensures { λ r. ⌜ Gathers (fanAsked (kindOf (mesh .kind)) (mesh .size) source (now (targets .entry))) (now (places .entry)) (now (counts .entry)) (failed (now (stopped .entry))) room r ⌝ }
 {
     let n = most(room);
     let mut ends = [0u64; MOST];
@@ -97,6 +98,44 @@ pub fn gather<'b>(
         &mut wholes[..n],
     );
     let k = taken(tally, targets.len());
+    Gathered {
+        tally: tally,
+        k: k,
+        ends: ends,
+        hops: hops,
+        wholes: wholes,
+    }
+}
+
+// The columns of a bundle's paths, and what comes back where there is room for so many entries.
+pub fn gather_bundle<'b>(
+    mesh: Mesh,
+    source: u64,
+    target: u64,
+    places: &'b [u64],
+    counts: &'b [u64],
+    stopped: &'b [u64],
+    room: usize,
+) -> Gathered
+    ensures { λ r. ⌜ Gathers (bundleAsked (kindOf (mesh .kind)) (mesh .size) source target) (now (places .entry)) (now (counts .entry)) (failed (now (stopped .entry))) room r ⌝ }
+{
+    let n = most(room);
+    let mut ends = [0u64; MOST];
+    let mut hops = [0u64; MOST];
+    let mut wholes = [0u64; MOST];
+    let tally = survivors::bundle_survivors(
+        mesh,
+        source,
+        target,
+        places,
+        counts,
+        stopped,
+        &mut ends[..n],
+        &mut hops[..n],
+        &mut wholes[..n],
+    );
+    let paths = columns::bundle_paths(mesh);
+    let k = taken(tally, paths);
     Gathered {
         tally: tally,
         k: k,

@@ -5,6 +5,7 @@ ghost use mathlib.Core.Path.{_≡_};
 ghost use lib.ListN.{length};
 ghost use Rattle.paths.specs.Whole.{failed};
 ghost use Rattle.mesh.specs.Kinds.{kindOf};
+ghost use Rattle.judge.specs.Says.{fanAsked, bundleAsked};
 ghost use Rattle.entries.specs.Says.{Listed};
 ghost use Rattle.entries.specs.Gathered.{stored};
 ghost use Rattle.entries.specs.Needs.{Fits};
@@ -12,7 +13,7 @@ use gathered::Gathered;
 use mesh::Mesh;
 use survivors::Tally;
 
-// One path of a fan: its target, its hops, and whether it is whole.
+// One path of a fan or a bundle: its target, its hops, and whether it is whole.
 #[repr(C)]
 pub struct Entry {
     pub target: u64,
@@ -21,7 +22,7 @@ pub struct Entry {
 }
 
 // Stores the gathered entries at the front of the list, and gives on what comes back. Proved by hand, as every function over a list of structs: the
-// loop stands here, so that `survivors`, which is lent more, has none.
+// loop stands here, so that `survivors` and `bundle_survivors`, which are lent more, have none.
 fn store<'a>(g: Gathered, out: &'a mut [Entry]) -> Tally
     requires { ⌜ Fits g (length (now out)) ⌝ }
     ensures { λ r. ⌜ (r ≡ g .tally) × (now (out .exit) ≡ stored g (now (out .entry))) ⌝ }
@@ -48,8 +49,27 @@ pub fn survivors<'a, 'b>(
     stopped: &'b [u64],
     out: &'a mut [Entry],
 ) -> Tally
-    ensures { λ r. ⌜ Listed (kindOf (mesh .kind)) (mesh .size) source (now (targets .entry)) (now (places .entry)) (now (counts .entry)) (failed (now (stopped .entry))) (now (out .entry)) r (now (out .exit)) ⌝ }
+    ensures { λ r. ⌜ Listed (fanAsked (kindOf (mesh .kind)) (mesh .size) source (now (targets .entry))) (now (places .entry)) (now (counts .entry)) (failed (now (stopped .entry))) (now (out .entry)) r (now (out .exit)) ⌝ }
 {
     let g = gathered::gather(mesh, source, targets, places, counts, stopped, out.len());
+    store(g, out)
+}
+
+// Of a bundle from the source to the target, an entry for each path, as many as a relay has links, at the front of `out`; the entries after those stay.
+// Answers how many are whole. In the cube of 2 dimensions, of the paths 0, 1 and 0, 2, 3, 1, with relay 2 stopped, the entries are (1, 1, yes) and
+// (1, 3, no), and the answer is 1. Refuses with 1, 2, 5, 6, 8, or gives the judge's first finding, and then leaves `out` as it was.
+// Proved by hand, as `survivors` is.
+pub fn bundle_survivors<'a, 'b>(
+    mesh: Mesh,
+    source: u64,
+    target: u64,
+    places: &'b [u64],
+    counts: &'b [u64],
+    stopped: &'b [u64],
+    out: &'a mut [Entry],
+) -> Tally
+    ensures { λ r. ⌜ Listed (bundleAsked (kindOf (mesh .kind)) (mesh .size) source target) (now (places .entry)) (now (counts .entry)) (failed (now (stopped .entry))) (now (out .entry)) r (now (out .exit)) ⌝ }
+{
+    let g = gathered::gather_bundle(mesh, source, target, places, counts, stopped, out.len());
     store(g, out)
 }

@@ -1,7 +1,4 @@
--- What the calls for C and C++ promise, and why they keep it.
+-- What the calls for C and C++ promise.
 pub mod Says
-pub mod Needs
-pub mod Stepping
-pub mod Planning
+pub mod Laws
 pub mod Unique
-pub mod Trips

@@ -1,30 +1,30 @@
--- Each promise leaves one answer, and one content of each slice: the planner's call one number, and one content where it refuses. (Which fan's sheet it
--- writes is its choice.) Assumes nothing.
+-- Each promise leaves one answer, and one content of each slice; of what is planned, one answer, and one content where it is refused. Assumes nothing.
 use Prim.Native.Nat.{ℕ}
 use mathlib.Core.Path.{_≡_, sym, _∙_}
 use mathlib.Core.List.{List}
 use mathlib.Core.Option.{Option, some}
 use Rattle.answers.specs.declared.Refusal.{Refusal}
 use Rattle.paths.specs.Whole.{Failed}
-use Rattle.mesh.specs.Kinds.{Kind}
-use Rattle.host.specs.Says.{Stepped, Planned, SurvivedIn, WroteIn, ReadIn}
+use Rattle.judge.specs.Says.{Asked}
+use Rattle.host.specs.Says.{PlannedIn, SurvivedIn, WroteIn, ReadIn}
 use Rattle.shapes.specs.declared.GustAnswer.{GustAnswer}
 use Rattle.shapes.specs.declared.GustReading.{GustReading}
 
-pub stepped-unique : {K : Kind} {n s t : ℕ} {out : List ℕ} {r q : ℕ} {out₁ out₂ : List ℕ} → Stepped K n s t out r out₁ → Stepped K n s t out q out₂ → (r ≡ q) × (out₁ ≡ out₂)
-stepped-unique a b = (a .told ∙ sym (b .told), a .held ∙ sym (b .held))
+module _ {o : Option Refusal} {k w : ℕ} {P : (places counts : List ℕ) → Type 0} {places counts : List ℕ} {r q : GustAnswer} {places₁ counts₁ places₂ counts₂ : List ℕ}
+    (a : PlannedIn o k w P places counts r places₁ counts₁) (b : PlannedIn o k w P places counts q places₂ counts₂) where
+  pub planned-in-unique : r ≡ q
+  planned-in-unique = a .told ∙ sym (b .told)
 
-module _ {o : Option Refusal} {kind size s : ℕ} {targets out : List ℕ} {r q : ℕ} {out₁ out₂ : List ℕ} (a : Planned o kind size s targets out r out₁) (b : Planned o kind size s targets out q out₂) where
-  pub planned-unique : r ≡ q
-  planned-unique = a .told ∙ sym (b .told)
+  pub refused-in-unique : (why : Refusal) → o ≡ some why → (places₁ ≡ places₂) × (counts₁ ≡ counts₂)
+  refused-in-unique why e =
+      let x = a .left .refused why e in
+      let y = b .left .refused why e in
+      (x .0 ∙ sym (y .0), x .1 ∙ sym (y .1))
 
-  pub refused-unique : (why : Refusal) → o ≡ some why → out₁ ≡ out₂
-  refused-unique why e = a .refused why e ∙ sym (b .refused why e)
-
-pub survived-in-unique : (K : Kind) (n s : ℕ) (targets places counts : List ℕ) (fails : Failed) (ends hops wholes : List ℕ) (r q : GustAnswer) (ends₁ hops₁ wholes₁ ends₂ hops₂ wholes₂ : List ℕ)
-    → SurvivedIn K n s targets places counts fails ends hops wholes r ends₁ hops₁ wholes₁ → SurvivedIn K n s targets places counts fails ends hops wholes q ends₂ hops₂ wholes₂
-    → (r ≡ q) × (ends₁ ≡ ends₂) × (hops₁ ≡ hops₂) × (wholes₁ ≡ wholes₂)
-survived-in-unique K n s targets places counts fails ends hops wholes r q ends₁ hops₁ wholes₁ ends₂ hops₂ wholes₂ a b = (
+pub survived-in-unique : {q : Asked} {places counts : List ℕ} {fails : Failed} {ends hops wholes : List ℕ} {r p : GustAnswer} {ends₁ hops₁ wholes₁ ends₂ hops₂ wholes₂ : List ℕ}
+    → SurvivedIn q places counts fails ends hops wholes r ends₁ hops₁ wholes₁ → SurvivedIn q places counts fails ends hops wholes p ends₂ hops₂ wholes₂
+    → (r ≡ p) × (ends₁ ≡ ends₂) × (hops₁ ≡ hops₂) × (wholes₁ ≡ wholes₂)
+survived-in-unique a b = (
   a .told ∙ sym (b .told),
   a .left .ended ∙ sym (b .left .ended),
   a .left .hopped ∙ sym (b .left .hopped),

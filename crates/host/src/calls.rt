@@ -1,35 +1,9 @@
-// The two calls of the region host: bytes in, bytes out, and number * 256 + place as the answer.
-ghost use mathlib.Core.Path.{_≡_};
-ghost use Prim.Native.Nat.{_<_};
-ghost use mathlib.Core.Option.{some};
-ghost use Rattle.answers.specs.Told.{place};
-ghost use Rattle.host.specs.Says.{codeOf, Put, Stepped, Planned, planAgainst, targetsIn};
+// The two calls of the region host, exported: bytes in, bytes out, and number * 256 + place as the answer.
 ghost use Rattle.mesh.specs.Kinds.{kindOf};
-use answers::Answer;
-use answers::Refusal;
+ghost use Rattle.region.specs.Says.{Stepped, Planned, planAgainst, targetsIn};
 use mesh::Mesh;
 
-// A refusal as one number: 5 at place 3 is 1283.
-pub fn code(why: Refusal) -> u64
-    requires { ⌜ place why < 256 ⌝ }
-    ensures { λ r. ⌜ r ≡ codeOf (some why) ⌝ }
-{
-    why.number() * 256 + (why.place() as u64)
-}
-
-// Writes a relay at the front, 8 bytes, where there is room.
-fn put_relay(relay: u64, out: &mut [u8]) -> u64
-    ensures { λ r. ⌜ Put relay (now (out .entry)) r (now (out .exit)) ⌝ }
-{
-    if out.len() < 8 {
-        return code(Refusal::NoRoom);
-    }
-    octets::put(relay, 8, 0, out);
-    0
-}
-
-// Writes the next hop, 8 bytes big-endian, at the front of `out`; what stands after it stays. In the mesh of kind 2 and size 2 from 0 towards 23 it writes
-// seven 00 and 04. Answers 0, or 1, 2, 5 or 8 times 256, and then `out` stays as it was.
+// `region::next_hop`.
 #[no_mangle]
 pub extern "C" fn gust_next_hop(
     kind: u64,
@@ -40,23 +14,18 @@ pub extern "C" fn gust_next_hop(
 ) -> u64
     ensures { λ r. ⌜ Stepped (kindOf kind) size source target (now (out .entry)) r (now (out .exit)) ⌝ }
 {
-    let hop = mesh::next_hop(
+    region::next_hop(
         Mesh {
             kind: kind,
             size: size,
         },
         source,
         target,
-    );
-    match hop {
-        Answer::Value(relay) => put_relay(relay, out),
-        Answer::Refused(why) => code(why),
-    }
+        out,
+    )
 }
 
-// Plans a fan and writes its sheet at the front of `out`; what stands after it stays. The targets are numbers of 8 bytes, big-endian. In the cube of 1
-// dimension, from 0 to 1, the sheet is that of `sheet_write::write`: 26 bytes. Answers 0, or number * 256 + place, and then `out` stays as it was: 10 where the
-// target bytes are no multiple of 8, then 1 to 7, then 8 where `out` is shorter than 16 + k * (2 + 8 * longest) bytes.
+// `region::plan`.
 #[no_mangle]
 pub extern "C" fn gust_plan(
     kind: u64,
@@ -67,10 +36,7 @@ pub extern "C" fn gust_plan(
 ) -> u64
     ensures { λ r. ⌜ Planned (planAgainst kind size source (now (targets .entry)) (now (out .entry))) kind size source (targetsIn (now (targets .entry))) (now (out .entry)) r (now (out .exit)) ⌝ }
 {
-    if targets.len() % 8 != 0 {
-        return code(Refusal::Unreadable);
-    }
-    crate::plan::plan_bytes(
+    region::plan(
         Mesh {
             kind: kind,
             size: size,

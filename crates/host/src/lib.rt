@@ -1,13 +1,16 @@
 // The library for programs in C and C++: every routine as an exported function over numbers and slices. include/gustparsley.h declares them.
 mod calls;
-mod plan;
 mod routines;
 
 pub use calls::gust_next_hop;
 pub use calls::gust_plan;
+pub use routines::gust_bundle;
+pub use routines::gust_bundle_survivors;
 pub use routines::gust_distance;
 pub use routines::gust_facts;
+pub use routines::gust_fan;
 pub use routines::gust_judge;
+pub use routines::gust_judge_bundle;
 pub use routines::gust_linked;
 pub use routines::gust_read_sheet;
 pub use routines::gust_route;

@@ -1,12 +1,16 @@
-// Facts, links, distance, route, judge, survivors and sheets over numbers and slices: the library's own routines, and nothing added.
+// Facts, links, distance, route, fans, bundles, judge, survivors and sheets over numbers and slices: the library's own routines, and nothing added.
 ghost use mathlib.Core.Path.{_≡_};
 ghost use mathlib.Core.Bool.{false};
-ghost use Rattle.mesh.specs.Kinds.{kindOf};
-ghost use Rattle.mesh.specs.Says.{linkedTold, distanceTold, routeTold, routeLeaves};
+ghost use lib.ListN.{length};
+ghost use Rattle.mesh.specs.Kinds.{kindOf, meshOf};
+ghost use Rattle.mesh.specs.Says.{linkedTold, distanceTold, routeTold, routeLeaves, requestAgainst, short, bundleAgainst, bundleShort};
+ghost use Rattle.paths.specs.Mesh.{width};
+ghost use Rattle.paths.specs.Fan.{Fan};
+ghost use Rattle.paths.specs.Bundles.{longer, Bundle};
 ghost use Rattle.paths.specs.Whole.{failed};
-ghost use Rattle.judge.specs.Says.{judgeTold};
+ghost use Rattle.judge.specs.Says.{judgeTold, bundleTold, fanAsked, bundleAsked};
 ghost use Rattle.shapes.specs.Shapes as specs;
-ghost use Rattle.host.specs.Says.{SurvivedIn, WroteIn, ReadIn};
+ghost use Rattle.host.specs.Says.{PlannedIn, SurvivedIn, WroteIn, ReadIn};
 use mesh::Mesh;
 use shapes::GustAnswer;
 use shapes::GustFacts;
@@ -77,6 +81,51 @@ pub extern "C" fn gust_route(
     ))
 }
 
+// `planner::plan`: the value is how many paths.
+#[no_mangle]
+pub extern "C" fn gust_fan(
+    kind: u64,
+    size: u64,
+    source: u64,
+    targets: &[u64],
+    places: &mut [u64],
+    counts: &mut [u64],
+) -> GustAnswer
+    ensures { λ r. ⌜ PlannedIn (requestAgainst (kindOf kind) size source (now (targets .entry)) (short (meshOf kind size) (length (now (targets .entry))) (length (now (places .entry))) (length (now (counts .entry))))) (length (now (targets .entry))) (width (meshOf kind size)) (Fan (meshOf kind size) source (now (targets .entry))) (now (places .entry)) (now (counts .entry)) r (now (places .exit)) (now (counts .exit)) ⌝ }
+{
+    let planned = planner::plan(
+        Mesh {
+            kind: kind,
+            size: size,
+        },
+        source,
+        targets,
+        places,
+        counts,
+    );
+    shapes::of_checked(planned, targets.len() as u64)
+}
+
+// `bundle::plan`: the value is how many paths.
+#[no_mangle]
+pub extern "C" fn gust_bundle(
+    kind: u64,
+    size: u64,
+    source: u64,
+    target: u64,
+    places: &mut [u64],
+    counts: &mut [u64],
+) -> GustAnswer
+    ensures { λ r. ⌜ PlannedIn (bundleAgainst (kindOf kind) size source target (bundleShort (meshOf kind size) (length (now (places .entry))) (length (now (counts .entry))))) (meshOf kind size .links) (width (longer (meshOf kind size))) (Bundle (meshOf kind size) source target) (now (places .entry)) (now (counts .entry)) r (now (places .exit)) (now (counts .exit)) ⌝ }
+{
+    let mesh = Mesh {
+        kind: kind,
+        size: size,
+    };
+    let planned = bundle::plan(mesh, source, target, places, counts);
+    shapes::of_checked(planned, mesh.links().value())
+}
+
 // `judge::judge`.
 #[no_mangle]
 pub extern "C" fn gust_judge(
@@ -101,6 +150,30 @@ pub extern "C" fn gust_judge(
     ))
 }
 
+// `judge::judge_bundle`.
+#[no_mangle]
+pub extern "C" fn gust_judge_bundle(
+    kind: u64,
+    size: u64,
+    source: u64,
+    target: u64,
+    places: &[u64],
+    counts: &[u64],
+) -> GustVerdict
+    ensures { λ r. ⌜ r ≡ specs.verdictIn (bundleTold (kindOf kind) size source target (now (places .entry)) (now (counts .entry)) false) ⌝ }
+{
+    shapes::of_verdict(judge::judge_bundle(
+        Mesh {
+            kind: kind,
+            size: size,
+        },
+        source,
+        target,
+        places,
+        counts,
+    ))
+}
+
 // `survivors::survivors`: the value is how many paths are whole.
 #[no_mangle]
 pub extern "C" fn gust_survivors(
@@ -115,7 +188,7 @@ pub extern "C" fn gust_survivors(
     hops: &mut [u64],
     wholes: &mut [u64],
 ) -> GustAnswer
-    ensures { λ r. ⌜ SurvivedIn (kindOf kind) size source (now (targets .entry)) (now (places .entry)) (now (counts .entry)) (failed (now (stopped .entry))) (now (ends .entry)) (now (hops .entry)) (now (wholes .entry)) r (now (ends .exit)) (now (hops .exit)) (now (wholes .exit)) ⌝ }
+    ensures { λ r. ⌜ SurvivedIn (fanAsked (kindOf kind) size source (now (targets .entry))) (now (places .entry)) (now (counts .entry)) (failed (now (stopped .entry))) (now (ends .entry)) (now (hops .entry)) (now (wholes .entry)) r (now (ends .exit)) (now (hops .exit)) (now (wholes .exit)) ⌝ }
 {
     shapes::of_tally(survivors::survivors(
         Mesh {
@@ -124,6 +197,38 @@ pub extern "C" fn gust_survivors(
         },
         source,
         targets,
+        places,
+        counts,
+        stopped,
+        ends,
+        hops,
+        wholes,
+    ))
+}
+
+// `survivors::bundle_survivors`: the value is how many paths are whole.
+#[no_mangle]
+pub extern "C" fn gust_bundle_survivors(
+    kind: u64,
+    size: u64,
+    source: u64,
+    target: u64,
+    places: &[u64],
+    counts: &[u64],
+    stopped: &[u64],
+    ends: &mut [u64],
+    hops: &mut [u64],
+    wholes: &mut [u64],
+) -> GustAnswer
+    ensures { λ r. ⌜ SurvivedIn (bundleAsked (kindOf kind) size source target) (now (places .entry)) (now (counts .entry)) (failed (now (stopped .entry))) (now (ends .entry)) (now (hops .entry)) (now (wholes .entry)) r (now (ends .exit)) (now (hops .exit)) (now (wholes .exit)) ⌝ }
+{
+    shapes::of_tally(survivors::bundle_survivors(
+        Mesh {
+            kind: kind,
+            size: size,
+        },
+        source,
+        target,
         places,
         counts,
         stopped,

@@ -1,5 +1,6 @@
 -- The judge's verdicts, the laws of its search, and what a verdict means.
 pub mod Says
+pub mod Asked
 pub mod Needs
 pub mod Looks
 pub mod Search

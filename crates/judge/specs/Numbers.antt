@@ -1,4 +1,4 @@
--- The numbers of the findings are 20 and more (`finding-numbered`): so what the judge tells is all 0 exactly where nothing stands against the
+-- The numbers of the findings are 20 and more (`findings-numbered`): so what the judge tells is all 0 exactly where nothing stands against the
 -- request and nothing is found (`rule-clean`). Assumes nothing.
 use Prim.Native.Nat.{ℕ, zero, suc, _≤_}
 use mathlib.Core.Path.{_≡_, refl, sym, ap}
@@ -53,7 +53,7 @@ module _ (r : Rules) (s : ℕ) (targets places counts : List ℕ) where
       (numbered-at (seenAt r places counts i) 24 i (omega arith)
       (numbered-at (unfilledAt r places counts i) 25 i (omega arith) (from-numbered (suc i) n))))))
 
-  findings-numbered : Numbered (findingBy r s targets places counts)
+  pub findings-numbered : Numbered (findingBy r s targets places counts)
   unfolding findingBy
   findings-numbered = from-numbered 0 (length targets)
 

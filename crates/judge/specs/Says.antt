@@ -1,15 +1,20 @@
--- What a verdict tells: the specification's number, path and place. All are 0 of a fan; of a refusal the path is 0.
-use Prim.Native.Nat.{ℕ}
+-- What a verdict tells: the specification's number, path and place. All are 0 where nothing is found; of a refusal the path is 0. What is judged is one
+-- record (`Asked`), of which a fan and a bundle are the two values, and what is told of it one definition (`askedTold`). Definitions; assumes nothing.
+use Prim.Native.Nat.{ℕ, _*_}
 use mathlib.Core.Bool.{Bool, true}
-use mathlib.Core.List.{List}
+use mathlib.Core.List.{List, _++_}
 use mathlib.Core.Option.{Option, none, some}
+use lib.Dec.{ltb}
 use lib.ListN.{length}
 use Rattle.scan.specs.Scan.{pick}
+use Rattle.answers.specs.Order.{Fault, first, endFaults, requestFaults, roomFaults}
 use Rattle.answers.specs.Told.{number, place}
 use Rattle.answers.specs.declared.Refusal.{Refusal}
-use Rattle.paths.specs.Finding.{Finding, clean, found, finding}
+use Rattle.paths.specs.Rules.{Rules, span, fanRules}
+use Rattle.paths.specs.Finding.{Finding, clean, found, findingBy}
+use Rattle.paths.specs.Bundles.{bundleRules, endsAt}
 use Rattle.mesh.specs.Kinds.{Kind}
-use Rattle.mesh.specs.Says.{requestAgainst, short}
+use Rattle.mesh.specs.Says.{sizeFaultsIn}
 use Rattle.judge.specs.declared.Finding as code
 use Rattle.judge.specs.declared.Finding.the-variants.{TooLong, NotFromSource, NotLinked, NotToTarget, SeenAgain, NotFilled}
 use Rattle.judge.specs.declared.Verdict.{Verdict}
@@ -54,12 +59,55 @@ verdictTold verdict.Fan = rule none clean
 verdictTold (verdict.Found f) = rule none (named f)
 verdictTold (verdict.Refused why) = rule (some why) clean
 
--- what stands against a request: 1 to 7, and 8 where there is no room for its paths, or where a slice that is lent besides lacks some
-abbrev pub judgeAgainst : (K : Kind) (n s : ℕ) (targets places counts : List ℕ) (lacking : Bool) → Option Refusal
-judgeAgainst K n s targets places counts lacking =
-    requestAgainst K n s targets (pick lacking true (short (K .mesh n) (length targets) (length places) (length counts)))
+-- ---- what is judged
 
--- what the judge tells: a refusal, then the first finding
+-- paths by some rules, from a source to each of some targets, and the faults that are told before want of room
+pub record Asked : Type 0 where
+  pub rules : Rules
+  pub source : ℕ
+  pub targets : List ℕ
+  pub faults : List Fault
+
+-- a fan: 1 to 7
+abbrev pub fanAsked : (K : Kind) (n s : ℕ) (targets : List ℕ) → Asked
+fanAsked K n s targets = record {
+  rules = fanRules (K .mesh n);
+  source = s;
+  targets = targets;
+  faults = sizeFaultsIn K n ++ requestFaults (K .mesh n .relays) (K .mesh n .links) s targets;
+}
+
+-- a bundle, whose paths all lead to t: 1, 2, 5, 6
+abbrev pub bundleAsked : (K : Kind) (n s t : ℕ) → Asked
+bundleAsked K n s t = record {
+  rules = bundleRules (K .mesh n);
+  source = s;
+  targets = endsAt (K .mesh n) t;
+  faults = sizeFaultsIn K n ++ endFaults (K .mesh n .relays) s t;
+}
+
+module _ (q : Asked) (places counts : List ℕ) where
+  -- fewer places than its paths take, or fewer counts than it has paths
+  abbrev pub cramped : Bool
+  cramped = pick (ltb (length places) (length (q .targets) * span (q .rules))) true (ltb (length counts) (length (q .targets)))
+
+  -- what stands against it: its faults, and 8 where there is no room for its paths, or where a slice that is lent besides lacks some
+  abbrev pub askedAgainst : (lacking : Bool) → Option Refusal
+  askedAgainst lacking = first (q .faults ++ roomFaults (pick lacking true cramped))
+
+  abbrev pub askedFinding : Finding
+  askedFinding = findingBy (q .rules) (q .source) (q .targets) places counts
+
+  -- what the judge tells: a refusal, then the first finding
+  abbrev pub askedTold : (lacking : Bool) → Ruling
+  askedTold lacking = rule (askedAgainst lacking) askedFinding
+
+-- the same of a fan, and of a bundle
+abbrev pub judgeAgainst : (K : Kind) (n s : ℕ) (targets places counts : List ℕ) (lacking : Bool) → Option Refusal
+judgeAgainst K n s targets = askedAgainst (fanAsked K n s targets)
+
 abbrev pub judgeTold : (K : Kind) (n s : ℕ) (targets places counts : List ℕ) (lacking : Bool) → Ruling
-judgeTold K n s targets places counts lacking =
-    rule (judgeAgainst K n s targets places counts lacking) (finding (K .mesh n) s targets places counts)
+judgeTold K n s targets = askedTold (fanAsked K n s targets)
+
+abbrev pub bundleTold : (K : Kind) (n s t : ℕ) (places counts : List ℕ) (lacking : Bool) → Ruling
+bundleTold K n s t = askedTold (bundleAsked K n s t)

@@ -1,4 +1,4 @@
--- Verdicts that tell the same are the same (`verdict-unique`): so the judge's promise leaves one verdict (`judge-unique`). Assumes nothing.
+-- Verdicts that tell the same are the same (`verdict-unique`): so the judge's promise, of a fan or a bundle, leaves one verdict (`judge-unique`). Assumes nothing.
 use Prim.Native.Nat.{ℕ}
 use mathlib.Core.Path.{_≡_, refl, sym, ap, _∙_}
 use mathlib.Core.Bool.{Bool}
@@ -9,8 +9,7 @@ use Rattle.scan.specs.Scan.{pick}
 use Rattle.answers.specs.Laws.{refusal, refusal-back, number-some, number-apart, isFinding}
 use Rattle.answers.specs.declared.Refusal.{Refusal}
 use Rattle.paths.specs.Finding.{clean}
-use Rattle.mesh.specs.Kinds.{Kind}
-use Rattle.judge.specs.Says.{Ruling, ruling, rule, named, verdictTold, judgeTold}
+use Rattle.judge.specs.Says.{Ruling, ruling, rule, named, verdictTold, Asked, askedTold}
 use Rattle.judge.specs.declared.Finding as code
 use Rattle.judge.specs.declared.Finding.the-variants.{TooLong, NotFromSource, NotLinked, NotToTarget, SeenAgain, NotFilled}
 use Rattle.judge.specs.declared.Verdict.{Verdict}
@@ -50,6 +49,6 @@ verdict-back (verdict.Refused why) = refused-back why
 pub verdict-unique : (a b : Verdict) → verdictTold a ≡ verdictTold b → a ≡ b
 verdict-unique a b e = sym (verdict-back a) ∙ ap verdictOf e ∙ verdict-back b
 
-pub judge-unique : (K : Kind) (n s : ℕ) (targets places counts : List ℕ) (lacking : Bool) (a b : Verdict)
-    → verdictTold a ≡ judgeTold K n s targets places counts lacking → verdictTold b ≡ judgeTold K n s targets places counts lacking → a ≡ b
-judge-unique K n s targets places counts lacking a b p q = verdict-unique a b (p ∙ sym q)
+pub judge-unique : (q : Asked) (places counts : List ℕ) (lacking : Bool) (a b : Verdict)
+    → verdictTold a ≡ askedTold q places counts lacking → verdictTold b ≡ askedTold q places counts lacking → a ≡ b
+judge-unique q places counts lacking a b p r = verdict-unique a b (p ∙ sym r)

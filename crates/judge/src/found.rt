@@ -1,13 +1,15 @@
 // The first finding: of a path in the order of the numbers, of the paths in theirs.
 ghost use mathlib.Core.Path.{_≡_};
+ghost use mathlib.Core.Option.{none};
 ghost use lib.ListN.{length};
 ghost use Rattle.paths.specs.Finding as finding;
 ghost use Rattle.judge_rows.specs.Rules.{rulesOf};
 ghost use Rattle.judge_rows.specs.Needs.{Next};
 ghost use Rattle.judge.specs.Needs.{Lent};
-ghost use Rattle.judge.specs.Says.{searchOf};
+ghost use Rattle.judge.specs.Says.{searchOf, verdictTold, rule};
 use crate::Finding;
 use crate::Search;
+use crate::Verdict;
 use judge_rows::Rules;
 use scan::Spot;
 
@@ -42,24 +44,24 @@ fn look(rules: Rules, source: u64, target: u64, places: &[u64], counts: &[u64], 
     Search::Clean
 }
 
-// The first finding of a path to each target, where the places and counts hold so many paths.
+// The first finding of a path to each target, or that there is none, where the places and counts hold so many paths.
 pub fn first_finding(
     rules: Rules,
     source: u64,
     targets: &[u64],
     places: &[u64],
     counts: &[u64],
-) -> Search
+) -> Verdict
     requires { ⌜ Lent rules (length (now targets)) (length (now places)) (length (now counts)) ⌝ }
-    ensures { λ r. ⌜ searchOf r ≡ finding.findingBy (rulesOf rules) source (now (targets .entry)) (now (places .entry)) (now (counts .entry)) ⌝ }
+    ensures { λ r. ⌜ verdictTold r ≡ rule none (finding.findingBy (rulesOf rules) source (now (targets .entry)) (now (places .entry)) (now (counts .entry))) ⌝ }
 {
     let mut i: usize = 0;
     while i < targets.len() {
         let looked = look(rules, source, targets[i], places, counts, i);
         if let Search::Found(f) = looked {
-            return Search::Found(f);
+            return Verdict::Found(f);
         }
         i += 1;
     }
-    Search::Clean
+    Verdict::Fan
 }

@@ -1,12 +1,13 @@
-// The judge: the first finding of a set of paths, or that it is a fan.
+// The judge: the first finding of a set of paths, or that there is none: that it is a fan or, in the other mode, a bundle.
+mod bundles;
 mod found;
 
+pub use bundles::judge_bundle;
+pub use bundles::judge_bundle_with;
 ghost use mathlib.Core.Path.{_≡_};
 ghost use mathlib.Core.Bool.{true, false};
-ghost use Prim.Native.Nat.{_≤_};
 ghost use Rattle.scan.specs.Scan.{pick};
-ghost use Rattle.mesh.specs.Kinds.{kindOf, meshOf, known};
-ghost use Rattle.mesh.specs.Says.{short};
+ghost use Rattle.mesh.specs.Kinds.{kindOf};
 ghost use Rattle.judge.specs.Says as specs;
 use answers::Checked;
 use answers::Refusal;
@@ -16,7 +17,7 @@ use mesh::Mesh;
 
 // What is wrong with a path: its number, counted from 0, and for most findings a place of it.
 pub enum Finding {
-    // 20: more hops than the longest path has.
+    // 20: more hops than a path may have.
     TooLong(usize),
     // 21: place 0 is not the source.
     NotFromSource(usize),
@@ -24,19 +25,20 @@ pub enum Finding {
     NotLinked(usize, usize),
     // 23: the last relay is not the target.
     NotToTarget(usize, usize),
-    // 24: a relay that stands earlier on this path or, the source at place 0 excepted, on an earlier one.
+    // 24: a relay that stands earlier on this path or, the source at place 0 excepted, on an earlier one; of a bundle the target at its end is
+    // excepted too, and a second bare link is told at place 1.
     SeenAgain(usize, usize),
     // 25: an unused place that does not hold 2^64 - 1.
     NotFilled(usize, usize),
 }
 
-// What a search for findings ends with.
+// What the look at a path ends with.
 enum Search {
     Clean,
     Found(Finding),
 }
 
-// It is a fan, or the first finding, or a refusal.
+// Nothing is found (it is the fan or the bundle that was asked for), or the first finding, or a refusal.
 pub enum Verdict {
     Fan,
     Found(Finding),
@@ -88,7 +90,7 @@ impl Finding {
 }
 
 impl Verdict {
-    // 0 of a fan, or the finding's or the reason's number.
+    // 0, or the finding's or the reason's number.
     pub fn number(self) -> u64
         ensures { λ r. ⌜ r ≡ specs.numberOf (specs.verdictTold self) ⌝ }
     {
@@ -110,7 +112,7 @@ impl Verdict {
         }
     }
 
-    // 0 of a fan, or the finding's or the reason's place.
+    // 0, or the finding's or the reason's place.
     pub fn place(self) -> usize
         ensures { λ r. ⌜ r ≡ specs.placeOf (specs.verdictTold self) ⌝ }
     {
@@ -122,15 +124,14 @@ impl Verdict {
     }
 }
 
-// Whether room is wanted: so many places and counts are too few for k paths, or something else is lacking.
-fn wanting(mesh: Mesh, k: usize, places: usize, counts: usize, lacking: bool) -> bool
-    requires { ⌜ (known (mesh .kind) (mesh .size) ≡ true) × (k ≤ meshOf (mesh .kind) (mesh .size) .links) ⌝ }
-    ensures { λ r. ⌜ r ≡ pick lacking true (short (meshOf (mesh .kind) (mesh .size)) k places counts) ⌝ }
+// Whether room is wanted: the slices are too short for the paths, or something else is lacking.
+fn wanting(lacking: bool, short: bool) -> bool
+    ensures { λ r. ⌜ r ≡ pick lacking true short ⌝ }
 {
     if lacking {
         return true;
     }
-    mesh::short(mesh, k, places, counts)
+    short
 }
 
 // The judge, for a caller that is lent slices besides, of which one may be lacking: that is refused 8 too.
@@ -148,7 +149,8 @@ pub fn judge_with(
     if let Checked::Refused(why) = checked {
         return Verdict::Refused(why);
     }
-    if wanting(mesh, targets.len(), places.len(), counts.len(), lacking) {
+    let short = mesh::short(mesh, targets.len(), places.len(), counts.len());
+    if wanting(lacking, short) {
         return Verdict::Refused(Refusal::NoRoom);
     }
     let rules = Rules {
@@ -156,11 +158,7 @@ pub fn judge_with(
         mode: Mode::Fan,
         width: mesh::places_in(mesh) as usize,
     };
-    let ended = found::first_finding(rules, source, targets, places, counts);
-    match ended {
-        Search::Clean => Verdict::Fan,
-        Search::Found(f) => Verdict::Found(f),
-    }
+    found::first_finding(rules, source, targets, places, counts)
 }
 
 // Whether the places and counts hold a fan from the source to the targets, a path to each in their order, or the first finding. Path i begins

@@ -14,7 +14,7 @@ use lib.Dec.{eqb}
 use borrow.Author.Tests.{eq-eqb, ne-eqb}
 use Rattle.scan.specs.Scan.{pick}
 use Rattle.scan.specs.Laws.{true-false}
-use Rattle.answers.specs.Order.{first, sizeFaults, distanceFaults, pairFaults, requestFaults}
+use Rattle.answers.specs.Order.{first, sizeFaults, distanceFaults, pairFaults, endFaults, requestFaults}
 use Rattle.answers.specs.Pairs.{size-known, size-unknown}
 use Rattle.answers.specs.Told.{told, tell}
 use Rattle.answers.specs.declared.Refusal.the-variants.{UnknownSize}
@@ -25,7 +25,7 @@ use Rattle.two_parts.specs.Near as parts
 use Rattle.paths.specs.Ways.{distance}
 use Rattle.paths.specs.Links.{Links}
 use Rattle.mesh.specs.Kinds.{Kind, cubes, twos, others, CUBE, TWO, kindOf, known, meshOf}
-use Rattle.mesh.specs.Says.{requestAgainst, distanceTold}
+use Rattle.mesh.specs.Says.{requestAgainst, bundleAgainst, distanceTold}
 
 -- ---- a kind by its number
 
@@ -82,6 +82,15 @@ module _ {r : Bool} (K : Kind) (n s : ℕ) (targets : List ℕ) (e : r ≡ K .kn
 
   pub request-unknown : r ≡ false → some UnknownSize ≡ requestAgainst K n s targets false
   request-unknown f = size-unknown (requestFaults (K .mesh n .relays) (K .mesh n .links) s targets) e f
+
+-- ---- two ends
+
+module _ {r : Bool} (K : Kind) (n s t : ℕ) (e : r ≡ K .known n) where
+  pub ends-known : {relays : ℕ} → r ≡ true → relays ≡ K .mesh n .relays → first (endFaults relays s t) ≡ bundleAgainst K n s t false
+  ends-known k p = ap (λ (x : ℕ). first (endFaults x s t)) p ∙ size-known (endFaults (K .mesh n .relays) s t) e k
+
+  pub ends-unknown : r ≡ false → some UnknownSize ≡ bundleAgainst K n s t false
+  ends-unknown f = size-unknown (endFaults (K .mesh n .relays) s t) e f
 
 -- ---- distance
 

@@ -1,12 +1,15 @@
--- The limits of every mesh that there is, each with its law: most links (`known-links`), most places of a path (`known-width`), most places of a fan
+-- The limits of every mesh that there is, each with its law: most links (`known-links`), and that there are some (`known-linked`), most places of a path (`known-width`), most places of a fan
 -- (`known-places`), most bytes of a sheet (`known-bytes`), most relays (`known-relays`). Assumes nothing.
-use Prim.Native.Nat.{ℕ, _+_, _*_, _^_, _≤_}
+use Prim.Native.Nat.{ℕ, zero, suc, _+_, _*_, _^_, _≤_, _<_}
 use mathlib.Core.Path.{_≡_, refl}
 use mathlib.Core.Bool.{true}
 use native.Mathlib.Nat.{mul-le-mul, le-trans}
 use native.Mathlib.Omega.{arith}
 use lib.Pow.{pow-mono}
 use Rattle.paths.specs.Mesh.{Mesh, width}
+use Rattle.paths.specs.Bundles.{longer}
+use Rattle.scan.specs.Laws.{true-false}
+use Rattle.cube.specs.Cube as cube
 use Rattle.cube.specs.Sizes.{known-most}
 use Rattle.two_parts.specs.Parts.{known-bounds, longest-few, relays-few}
 use Rattle.mesh.specs.Kinds.{Kind, kindOf, meshOf, known}
@@ -39,9 +42,17 @@ module _ (n : ℕ) where
       (λ z. let most = known-most n refl z in c _ (most, omega arith))
       (λ z. let most = known-bounds n z .1 in t _ (omega arith, omega (arith, longest-few n most)))
 
+-- a cube that there is has a dimension
+some : (n : ℕ) → cube.known n ≡ true → 0 < n
+some zero e = absurd (true-false e refl)
+some (suc n) e = omega arith
+
 module _ (k n : ℕ) (h : known k n ≡ true) where
   pub known-links : meshOf k n .links ≤ mostLinks
   known-links = known-within n k h (λ (K : Kind). K .mesh n .links ≤ mostLinks) (λ K w. w .0) (λ K w. omega (arith, w .0))
+
+  pub known-linked : 0 < meshOf k n .links
+  known-linked = known-case k n h (λ j (K : Kind). 0 < K .mesh n .links) (λ z. some n z) (λ z. omega arith)
 
   pub known-width : width (meshOf k n) ≤ mostWidth
   known-width = known-within n k h (λ (K : Kind). width (K .mesh n) ≤ mostWidth) (λ K w. omega (arith, w .1)) (λ K w. w .1)
@@ -49,6 +60,10 @@ module _ (k n : ℕ) (h : known k n ≡ true) where
   pub known-places : meshOf k n .links * width (meshOf k n) ≤ mostPlaces
   known-places = known-within n k h (λ (K : Kind). K .mesh n .links * width (K .mesh n) ≤ mostPlaces)
       (λ K w. le-trans (mul-le-mul (w .0) (w .1)) (omega arith)) (λ K w. mul-le-mul (w .0) (w .1))
+
+  -- a bundle has a place more for each path
+  pub known-bundle : meshOf k n .links * width (longer (meshOf k n)) ≤ mostPlaces + mostLinks
+  known-bundle = omega (arith, known-places, known-links)
 
   pub known-bytes : sheetMost (meshOf k n) ≤ mostBytes
   known-bytes = known-within n k h (λ (K : Kind). sheetMost (K .mesh n) ≤ mostBytes)

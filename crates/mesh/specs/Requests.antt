@@ -1,26 +1,28 @@
 -- What stands against a request over a mesh, as code finds it: 1 to 7 first, room last (`request-refused`, `request-short`,
--- `request-granted`); what a request is that none of 1 to 7 stands against (`request-fine`); and room for its paths (`room-enough`).
+-- `request-granted`); what a request is that none of 1 to 7 stands against (`request-fine`); the same of two ends and a bundle's room (`ends-fine`,
+-- `ends-refused`, `ends-short`, `ends-granted`); and room for paths (`room-enough`).
 -- Assumes nothing.
-use Prim.Native.Nat.{ℕ, _*_, _≤_}
+use Prim.Native.Nat.{ℕ, _*_, _≤_, _<_}
 use mathlib.Core.Path.{_≡_, refl, sym, ap, _∙_}
 use mathlib.Core.Bool.{Bool, true, false, not}
-use mathlib.Core.List.{List, _++_}
+use mathlib.Core.Logic.{_≢_}
+use mathlib.Core.List.{List, [], _∷_, _++_}
 use mathlib.Core.Option.{none, some}
-use lib.Dec.{ltb}
-use borrow.Author.Tests.{not-false, ltb-false}
-use Rattle.scan.specs.Scan.{pick}
+use lib.Dec.{eqb, ltb}
+use borrow.Author.Tests.{not-false, ltb-false, eqb-false}
+use Rattle.scan.specs.Scan.{at, nowhere, pick}
 use Rattle.scan.specs.Laws.{true-false}
-use Rattle.answers.specs.Order.{Fault, first, refuse, before, refuse-none, append-none, requestFaults, roomFaults}
-use Rattle.answers.specs.Pairs.{room-last, room-refused, room-short, room-granted}
+use Rattle.answers.specs.Order.{Fault, fault-at, first, refuse, refuse-at, before, refuse-none, refused-not, append-none, pairFaults, endFaults, requestFaults, roomFaults}
+use Rattle.answers.specs.Pairs.{pair-sound, room-last, room-refused, room-short, room-granted}
 use Rattle.answers.specs.Told.{against}
 use Rattle.answers.specs.declared.Refusal.{Refusal}
-use Rattle.answers.specs.declared.Refusal.the-variants.{UnknownSize, NoRoom}
+use Rattle.answers.specs.declared.Refusal.the-variants.{UnknownSize, TargetIsSource, NoRoom}
 use Rattle.answers.specs.declared.Checked.{Checked}
 use Rattle.answers.specs.declared.Checked.the-variants as checked
 use Rattle.requests.specs.Sound.{Sound, sound}
 use Rattle.paths.specs.Mesh.{Mesh, width}
 use Rattle.mesh.specs.Kinds.{Kind}
-use Rattle.mesh.specs.Says.{sizeFaultsIn, requestAgainst, short}
+use Rattle.mesh.specs.Says.{sizeFaultsIn, requestAgainst, bundleAgainst, short}
 
 -- nothing of 1 to 7: there is the mesh, and the request is sound in it
 pub record Fine (K : Kind) (n s : ℕ) (targets : List ℕ) : Type 0 where
@@ -63,6 +65,50 @@ module _ (K : Kind) (n s : ℕ) (targets : List ℕ) where
 
     pub request-granted : {flag room : Bool} → r ≡ checked.Fine → flag ≡ room → flag ≡ false → none ≡ requestAgainst K n s targets room
     request-granted {flag} {room} f w t = room-granted early room e f w t
+
+-- ---- two ends, and room for the bundle between them
+
+-- nothing of 1, 2, 5, 6: there is the mesh, and the two are different relays of it
+pub record Ends (K : Kind) (n s t : ℕ) : Type 0 where
+  pub known : K .known n ≡ true
+  pub source : s < K .mesh n .relays
+  pub target : t < K .mesh n .relays
+  pub other : t ≢ s
+
+module _ (K : Kind) (n s t : ℕ) where
+  -- 1, 2, 5, 6
+  abbrev endsEarly : List Fault
+  endsEarly = sizeFaultsIn K n ++ endFaults (K .mesh n .relays) s t
+
+  pub ends-fine : bundleAgainst K n s t false ≡ none → Ends K n s t
+  ends-fine e =
+      let p = append-none (sizeFaultsIn K n ++ pairFaults (K .mesh n .relays) s t) (fault-at (pick (eqb t s) (at 0) nowhere) TargetIsSource ∷ []) e in
+      let r = pair-sound (K .known n) (K .mesh n .relays) s t (p .0) in
+      record { known = r .0; source = r .1; target = r .2; other = eqb-false t s (apart (eqb t s) (p .1)) }
+    where
+      apart : (b : Bool) → refuse-at (pick b (at 0) nowhere) TargetIsSource none ≡ none → b ≡ false
+      apart true e = refused-not e
+      apart false e = refl
+
+  -- nothing of 1, 2, 5, 6, 8
+  pub ends-passed : (room : Bool) → bundleAgainst K n s t room ≡ none → Ends K n s t × (room ≡ false)
+  ends-passed room e =
+      let r = append-none endsEarly (roomFaults room) e in
+      (ends-fine (r .0), refuse-none room NoRoom none (r .1) .0)
+
+  -- ---- as code goes through them: what was checked, then room
+  module _ {r : Checked} (e : against r ≡ bundleAgainst K n s t false) where
+    pub checked-ends : r ≡ checked.Fine → Ends K n s t
+    checked-ends f = ends-fine (sym e ∙ ap against f)
+
+    pub ends-refused : {why : Refusal} (room : Bool) → r ≡ checked.Refused why → some why ≡ bundleAgainst K n s t room
+    ends-refused room f = room-refused endsEarly room e f
+
+    pub ends-short : {flag room : Bool} → r ≡ checked.Fine → flag ≡ room → flag ≡ true → some NoRoom ≡ bundleAgainst K n s t room
+    ends-short {flag} {room} f w t = room-short endsEarly room e f w t
+
+    pub ends-granted : {flag room : Bool} → r ≡ checked.Fine → flag ≡ room → flag ≡ false → none ≡ bundleAgainst K n s t room
+    ends-granted {flag} {room} f w t = room-granted endsEarly room e f w t
 
 -- ---- room for paths
 

@@ -6,14 +6,15 @@ use mathlib.Core.Option.{Option}
 use lib.Dec.{leb, ltb}
 use lib.ListN.{length, drop}
 use Rattle.scan.specs.Scan.{pick}
-use Rattle.answers.specs.Order.{Fault, first, sizeFaults, distanceFaults, pairFaults, requestFaults, roomFaults}
+use Rattle.answers.specs.Order.{Fault, first, sizeFaults, distanceFaults, pairFaults, endFaults, requestFaults, roomFaults}
 use Rattle.answers.specs.Told.{Told, tell, leaves}
 use Rattle.answers.specs.declared.Refusal.{Refusal}
 use Rattle.paths.specs.Mesh.{Mesh, width}
 use Rattle.paths.specs.Ways.{distance}
+use Rattle.paths.specs.Bundles.{longer}
 use Rattle.mesh.specs.Kinds.{Kind}
 use Rattle.mesh.specs.declared.Fact.{Fact}
-use Rattle.mesh.specs.declared.Fact.the-variants.{Relays, Links, Longest, Places}
+use Rattle.mesh.specs.declared.Fact.the-variants.{Relays, Links, Longest, Places, BundlePlaces}
 
 -- ---- what may stand against a size, a pair, a request: the faults of each routine, in its order
 
@@ -29,6 +30,10 @@ pairFaultsIn k n s t room = sizeFaultsIn k n ++ pairFaults (k .mesh n .relays) s
 abbrev pub distanceFaultsIn : (k : Kind) (n s t : ℕ) → List Fault
 distanceFaultsIn k n s t = sizeFaultsIn k n ++ distanceFaults (k .undistanced n) ++ pairFaults (k .mesh n .relays) s t
 
+-- 1, 2, 5, 6, and 8 where there is no room
+abbrev pub bundleFaultsIn : (k : Kind) (n s t : ℕ) (room : Bool) → List Fault
+bundleFaultsIn k n s t room = sizeFaultsIn k n ++ endFaults (k .mesh n .relays) s t ++ roomFaults room
+
 -- 1 to 7, and 8 where there is no room
 abbrev pub requestFaultsIn : (k : Kind) (n s : ℕ) (targets : List ℕ) (room : Bool) → List Fault
 requestFaultsIn k n s targets room = sizeFaultsIn k n ++ requestFaults (k .mesh n .relays) (k .mesh n .links) s targets ++ roomFaults room
@@ -42,9 +47,16 @@ pairAgainst k n s t room = first (pairFaultsIn k n s t room)
 abbrev pub requestAgainst : (k : Kind) (n s : ℕ) (targets : List ℕ) (room : Bool) → Option Refusal
 requestAgainst k n s targets room = first (requestFaultsIn k n s targets room)
 
+abbrev pub bundleAgainst : (k : Kind) (n s t : ℕ) (room : Bool) → Option Refusal
+bundleAgainst k n s t room = first (bundleFaultsIn k n s t room)
+
 -- fewer places than k paths take, or fewer counts than k
 abbrev pub short : (m : Mesh) (k places counts : ℕ) → Bool
 short m k places counts = pick (ltb places (k * width m)) true (ltb counts k)
+
+-- the same of a bundle: a path for each link, of a place more
+abbrev pub bundleShort : (m : Mesh) (places counts : ℕ) → Bool
+bundleShort m = short (longer m) (m .links)
 
 -- ---- what is told
 
@@ -53,6 +65,7 @@ factOf Relays m = m .relays
 factOf Links m = m .links
 factOf Longest m = m .longest
 factOf Places m = width m
+factOf BundlePlaces m = width (longer m)
 
 -- a fact of a size
 abbrev pub factTold : (k : Kind) (n : ℕ) (fact : ℕ) → Told ℕ

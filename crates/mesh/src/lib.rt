@@ -8,12 +8,15 @@ pub use pairs::linked;
 pub use pairs::near;
 pub use pairs::next_hop;
 pub use pairs::route;
+pub use requested::bundle_short;
+pub use requested::ends;
 pub use requested::request;
 pub use requested::short;
 ghost use mathlib.Core.Path.{_≡_};
 ghost use mathlib.Core.Bool.{true};
 ghost use Rattle.answers.specs.Told.{answerTold};
 ghost use Rattle.paths.specs.Mesh.{width};
+ghost use Rattle.paths.specs.Bundles.{longer};
 ghost use Rattle.cube.specs.Cube as cubes;
 ghost use Rattle.two_parts.specs.Two as twos;
 ghost use Rattle.mesh.specs.Kinds as specs;
@@ -45,6 +48,7 @@ enum Fact {
     Links,
     Longest,
     Places,
+    BundlePlaces,
 }
 
 impl Mesh {
@@ -93,6 +97,13 @@ impl Mesh {
         self.fact(Fact::Places)
     }
 
+    // The places that a path of a bundle takes: of kind 2 and size 3 it takes 44.
+    pub fn bundle_places(self) -> Answer
+        ensures { λ r. ⌜ answerTold r ≡ factTold (specs.kindOf (self .kind)) (self .size) (width (longer (specs.meshOf (self .kind) (self .size)))) ⌝ }
+    {
+        self.fact(Fact::BundlePlaces)
+    }
+
     fn fact(self, which: Fact) -> Answer
         ensures { λ r. ⌜ answerTold r ≡ factTold (specs.kindOf (self .kind)) (self .size) (factOf which (specs.meshOf (self .kind) (self .size))) ⌝ }
     {
@@ -114,6 +125,7 @@ fn cube_fact(n: u64, which: Fact) -> u64
         Fact::Links => n,
         Fact::Longest => n + 1,
         Fact::Places => n + 2,
+        Fact::BundlePlaces => n + 3,
     }
 }
 
@@ -127,6 +139,7 @@ fn two_fact(m: u64, which: Fact) -> u64
         Fact::Links => m + 1,
         Fact::Longest => two_parts::longest_in(Order(m)),
         Fact::Places => two_parts::longest_in(Order(m)) + 1,
+        Fact::BundlePlaces => two_parts::longest_in(Order(m)) + 2,
     }
 }
 
@@ -164,4 +177,11 @@ pub fn places_in(mesh: Mesh) -> u64
     ensures { λ r. ⌜ r ≡ width (specs.meshOf (mesh .kind) (mesh .size)) ⌝ }
 {
     fact_in(mesh, Fact::Places)
+}
+
+pub fn bundle_places_in(mesh: Mesh) -> u64
+    requires { ⌜ specs.known (mesh .kind) (mesh .size) ≡ true ⌝ }
+    ensures { λ r. ⌜ r ≡ width (longer (specs.meshOf (mesh .kind) (mesh .size))) ⌝ }
+{
+    fact_in(mesh, Fact::BundlePlaces)
 }

@@ -1,4 +1,4 @@
-// A request of paths from a source to a list of targets, checked.
+// A request checked: of paths from a source to a list of targets, and of a bundle between two relays.
 ghost use mathlib.Core.Path.{_≡_};
 ghost use mathlib.Core.Bool.{true, false};
 ghost use Prim.Native.Nat.{_≤_};
@@ -30,6 +30,28 @@ pub fn short(mesh: Mesh, k: usize, places: usize, counts: usize) -> bool
     ensures { λ r. ⌜ r ≡ says.short (specs.meshOf (mesh .kind) (mesh .size)) k places counts ⌝ }
 {
     if places < k * (crate::places_in(mesh) as usize) {
+        return true;
+    }
+    counts < k
+}
+
+// What stands against a bundle between two relays whatever is lent for its paths: 1, 2, 5, 6.
+pub fn ends(mesh: Mesh, source: u64, target: u64) -> Checked
+    ensures { λ r. ⌜ against r ≡ says.bundleAgainst (specs.kindOf (mesh .kind)) (mesh .size) source target false ⌝ }
+{
+    if mesh.known() {
+        return requests::ends(crate::relays_in(mesh), source, target);
+    }
+    Checked::Refused(Refusal::UnknownSize)
+}
+
+// Whether so many places and counts are too few for a bundle.
+pub fn bundle_short(mesh: Mesh, places: usize, counts: usize) -> bool
+    requires { ⌜ specs.known (mesh .kind) (mesh .size) ≡ true ⌝ }
+    ensures { λ r. ⌜ r ≡ says.bundleShort (specs.meshOf (mesh .kind) (mesh .size)) places counts ⌝ }
+{
+    let k = crate::links_in(mesh) as usize;
+    if places < k * (crate::bundle_places_in(mesh) as usize) {
         return true;
     }
     counts < k

@@ -1,14 +1,16 @@
--- The paths of a fan, read back as lists (`fan-lists`): what a caller of a planner learns of the slices that it lent. Assumes nothing.
+-- The paths of a fan, read back as lists (`fan-lists`), which stand where they were read (`fan-laid`): what a caller of a planner learns of the slices that it
+-- lent. Assumes nothing.
 use Prim.Native.Nat.{ℕ, zero, suc, _+_, _*_, _≤_, _<_}
 use mathlib.Core.Path.{_≡_, sym, ap, _∙_, subst}
 use mathlib.Core.Bool.{true}
 use mathlib.Core.Logic.{inl, inr, ⊎-elim}
-use mathlib.Core.List.{List}
+use mathlib.Core.List.{List, _∷_}
 use native.Mathlib.Omega.{arith}
-use lib.ListN.{length, getD}
+use native.Mathlib.Decide.{decLe}
+use lib.ListN.{length, getD, List·getD-eq-default}
 use Rattle.paths.specs.Mesh.{Mesh, width}
-use Rattle.paths.specs.Fan.{relay, hops, Path, Fan}
-use Rattle.paths.specs.Lists.{In, Fresh, Chain, Lists, ahead, ahead-length}
+use Rattle.paths.specs.Fan.{filler, relay, hops, Path, Fan}
+use Rattle.paths.specs.Lists.{In, Fresh, Chain, Lists, Laid, ahead, ahead-length, ahead-at}
 
 -- the relays of path i after its source
 abbrev pub read : (w : ℕ) (places counts : List ℕ) (i : ℕ) → List ℕ
@@ -93,3 +95,17 @@ module _ (m : Mesh) (s : ℕ) (targets places counts : List ℕ) (f : Fan m s ta
         where
           two : (p q : ℕ) → p < hops counts i → q < hops counts i → getD places (i * width m + 1 + p) 0 ≡ getD places (i * width m + 1 + q) 0 → p ≡ q
           two p q a b e = let z : suc p ≡ suc q = same i p (suc q) h (omega arith) (omega arith) (after i p ∙ e ∙ sym (after i q)) in omega arith
+
+  -- the lists stand in the places
+  pub fan-laid : Laid (width m) s (length targets) path places counts
+  unfolding relay
+  fan-laid = record {
+    at = λ i p h g. go i p h g (decLe p (hops counts i));
+    count = λ i h. sym (ahead-length places (i * width m + 1) (hops counts i));
+  }
+    where
+      go : (i p : ℕ) → i < length targets → p < width m → Dec (p ≤ hops counts i) → getD places (i * width m + p) 0 ≡ getD (s ∷ path i) p filler
+      go i zero h g (yes b) = f .path i h .starts
+      go i (suc p) h g (yes b) = after i p ∙ sym (ahead-at places (i * width m + 1) (hops counts i) filler p (omega arith))
+      go i p h g (no b) = f .path i h .filled p (omega arith) (omega arith)
+          ∙ sym (List·getD-eq-default (s ∷ path i) filler {n = p} (omega (arith, ahead-length places (i * width m + 1) (hops counts i))))

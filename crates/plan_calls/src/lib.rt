@@ -1,29 +1,8 @@
-// The planners over plain numbers, exported: what the benchmark and the tests in C++ call. Each call returns the number of the refusal, or 0.
-ghost use lib.ListN.{length};
-ghost use Rattle.mesh.specs.Kinds.{kindOf, meshOf};
-ghost use Rattle.mesh.specs.Says.{requestAgainst, short};
+// The cube's planners over plain numbers, exported: what the benchmark and the tests in C++ call. Each call returns the number of the refusal, or 0.
 ghost use Rattle.cube.specs.Cube.{cube};
 ghost use Rattle.cube_plan.specs.Says.{planAgainst, throughAgainst};
 ghost use Rattle.plan_calls.specs.Called.{Called, CalledThrough};
 use cube::Size;
-use mesh::Mesh;
-
-// `planner::plan` in the mesh of a kind and size.
-#[no_mangle]
-pub extern "C" fn gustparsley_plan_places(
-    kind: u64,
-    size: u64,
-    source: u64,
-    targets: &[u64],
-    places: &mut [u64],
-    counts: &mut [u64],
-) -> u64
-    ensures { λ r. ⌜ Called (requestAgainst (kindOf kind) size source (now (targets .entry)) (short (meshOf kind size) (length (now (targets .entry))) (length (now (places .entry))) (length (now (counts .entry))))) (meshOf kind size) source (now (targets .entry)) (now (places .entry)) (now (counts .entry)) r (now (places .exit)) (now (counts .exit)) ⌝ }
-{
-    let mesh = Mesh { kind, size };
-    let checked = planner::plan(mesh, source, targets, places, counts);
-    checked.number()
-}
 
 // `cube_plan::plan` in the cube of n dimensions: the cube's planner alone, for its time and its stack.
 #[no_mangle]

@@ -18,4 +18,4 @@ use Rattle.requests.specs.Planned.{Planned, planned-against}
 pub plan-survives : {o : Option Refusal} (mesh : Mesh) (s : ℕ) (targets places counts : List ℕ) {r : Checked} (places₁ counts₁ : List ℕ) → Planned o mesh s targets places counts r places₁ counts₁
     → against r ≡ none → (f : Failed) → has (f .stopped) s ≡ false
     → length targets ≤ count (whole (width mesh) places₁ counts₁ f) (length targets) + failures f
-plan-survives mesh s targets places counts places₁ counts₁ p e f h = fan-survives mesh s targets places₁ counts₁ (p .fan (sym (planned-against p) ∙ e)) f h
+plan-survives mesh s targets places counts places₁ counts₁ p e f h = fan-survives mesh s targets places₁ counts₁ (p .paths (sym (planned-against p) ∙ e)) f h

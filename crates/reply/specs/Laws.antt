@@ -90,7 +90,7 @@ module _ (kind n s : ℕ) (targets places counts : List ℕ) (p : length places 
       plan-known = planned-fine .known
 
       planned-fan : Fan m s targets places₁ counts₁
-      planned-fan = w .fan (sym (planned-against w) ∙ ap against e)
+      planned-fan = w .paths (sym (planned-against w) ∙ ap against e)
 
       none-overlong : any (overlong (width m) counts₁) 0 k ≡ false
       none-overlong = false-any (overlong (width m) counts₁) 0 k (λ i a b. lt-leb (width m) (hops counts₁ i) (omega (arith, planned-fan .path i (omega arith) .short)))

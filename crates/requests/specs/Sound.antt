@@ -1,4 +1,4 @@
--- What a request is that none of 2 to 7 stands against: the record `Sound`, and `sound`. Assumes nothing.
+-- What a request is that none of 2 to 7 stands against: the record `Sound`; `sound`, and `sound-clear` the other way. Assumes nothing.
 use Prim.Native.Nat.{ℕ, zero, suc, _≤_, _<_}
 use mathlib.Core.Path.{_≡_, refl, sym, ap}
 use mathlib.Core.Logic.{_⊎_, inl, inr, ⊎-elim, _≢_}
@@ -7,8 +7,8 @@ use mathlib.Core.Option.{none}
 use native.Mathlib.Omega.{arith}
 use lib.Dec.{eqb, leb, ltb}
 use lib.ListN.{length, getD}
-use borrow.Author.Tests.{leb-false, ltb-false, eqb-false}
-use Rattle.scan.specs.Laws.{seek-none, among-false}
+use borrow.Author.Tests.{leb-false, ltb-false, eqb-false, lt-leb, le-ltb, ne-eqb}
+use Rattle.scan.specs.Laws.{seek-none, none-seek, among-false, false-among}
 use Rattle.answers.specs.Order.{first, refuse-none, at-none, firstAt, isOut, isSame, isAgain, requestFaults}
 use Rattle.answers.specs.declared.Refusal.the-variants.{SourceOut, NoTarget, TooMany, TargetOut, TargetIsSource, TargetAgain}
 
@@ -45,3 +45,15 @@ sound relays links s targets e =
       other = λ j h. eqb-false (getD targets j 0) s (seek-none (isSame s targets) 0 (length targets) (same .0) j (omega arith) (omega arith));
       differ = λ i j h g ne e. ⊎-elim (λ l. earlier i j l g e) (λ l. earlier j i (omega arith) h (sym e)) (less-or i j ne);
     }
+
+pub sound-clear : (relays links s : ℕ) (targets : List ℕ) → Sound relays links s targets → first (requestFaults relays links s targets) ≡ none
+sound-clear relays links s targets d =
+    simp (
+      lt-leb relays s (d .source),
+      ne-eqb (length targets) 0 (λ e. omega (arith, d .some-target)),
+      le-ltb links (length targets) (d .few),
+      none-seek (isOut relays targets) 0 (length targets) (λ j a b. lt-leb relays (getD targets j 0) (d .below j (omega arith))),
+      none-seek (isSame s targets) 0 (length targets) (λ j a b. ne-eqb (getD targets j 0) s (d .other j (omega arith))),
+      none-seek (isAgain targets) 0 (length targets)
+          (λ j a b. false-among targets 0 j (getD targets j 0) (λ i c e. d .differ i j (omega arith) (omega arith) (λ z. omega arith))),
+    )

@@ -1,7 +1,7 @@
-// What stands against a request: the reasons 2 to 7, in their order.
+// What stands against a request: the reasons 2 to 7, in their order; and against two ends: 2, 5, 6.
 ghost use mathlib.Core.Path.{_≡_};
 ghost use Rattle.answers.specs.Told.{against};
-ghost use Rattle.answers.specs.Order.{first, requestFaults, targetFaults, firstAt, isOut, isSame, isAgain};
+ghost use Rattle.answers.specs.Order.{first, endFaults, requestFaults, targetFaults, firstAt, isOut, isSame, isAgain};
 ghost use Rattle.scan.specs.Scan.{spotOf};
 use answers::Checked;
 use answers::Refusal;
@@ -83,4 +83,20 @@ pub fn request(relays: u64, links: u64, source: u64, targets: &[u64]) -> Checked
         return Checked::Refused(Refusal::TooMany);
     }
     targets_checked(relays, source, targets)
+}
+
+// What stands against two ends in a mesh of so many relays, which are to be different: 2, 5, 6.
+pub fn ends(relays: u64, source: u64, target: u64) -> Checked
+    ensures { λ r. ⌜ against r ≡ first (endFaults relays source target) ⌝ }
+{
+    if relays <= source {
+        return Checked::Refused(Refusal::SourceOut);
+    }
+    if relays <= target {
+        return Checked::Refused(Refusal::TargetOut(0));
+    }
+    if target == source {
+        return Checked::Refused(Refusal::TargetIsSource(0));
+    }
+    Checked::Fine
 }

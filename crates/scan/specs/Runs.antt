@@ -1,8 +1,8 @@
 -- Runs of numbers written into a list one after another (`sets-append`), by a loop (`Running`); and places filled with one number: they hold it
--- (`filled-in`), and the others what they held (`filled-out`). Assumes nothing.
+-- (`filled-in`), and the others what they held (`filled-out`); numbers moved to the front one by one (`Shifted`). Assumes nothing.
 use Prim.Native.Nat.{ℕ, zero, suc, _+_, _≤_, _<_}
-use mathlib.Core.Path.{_≡_, refl, sym, ap, ap₂, _∙_}
-use mathlib.Core.Logic.{_⊎_, inl, inr, ⊎-elim}
+use mathlib.Core.Path.{_≡_, refl, sym, ap, ap₂, _∙_, subst}
+use mathlib.Core.Logic.{_⊎_, inl, inr, ⊎-elim, _≢_}
 use mathlib.Core.List.{List, [], _∷_, _++_}
 use native.Mathlib.Numerals.{add-one}
 use native.Mathlib.Omega.{arith}
@@ -67,3 +67,34 @@ filled-in l from (suc n) x i r h g = go (ℕ-discrete i from) (λ le lt. filled-
     go : Dec (i ≡ from) → (suc from ≤ i → i < suc from + n → getD (sets (set l from x) (suc from) (replicate n x)) i 0 ≡ x) → getD (sets (set l from x) (suc from) (replicate n x)) i 0 ≡ x
     go (yes e) rest = filled-out (set l from x) (suc from) n x i (inl (omega arith)) ∙ ap (λ (j : ℕ). getD (set l from x) j 0) e ∙ getD-set-same l from x 0 (omega arith)
     go (no ne) rest = rest (omega arith) (omega arith)
+
+-- ---- numbers moved to the front
+
+pub record Shifted (to from n : ℕ) (before after : List ℕ) : Type 0 where
+  pub is : (q : ℕ) → q < n → getD after (to + q) 0 ≡ getD before (from + q) 0
+  pub rest : (i : ℕ) → (i < to) ⊎ (to + n ≤ i) → getD after i 0 ≡ getD before i 0
+
+pub shifted-none : (to from n : ℕ) (l : List ℕ) → n ≡ 0 → Shifted to from n l l
+shifted-none to from n l e = record { is = λ q h. absurd (omega arith); rest = λ i h. refl }
+
+pub shifted-more : (to from n : ℕ) (l m : List ℕ) → Shifted to from n l m → to ≤ from → to + n < length m
+    → Shifted to from (n + 1) l (set m (to + n) (getD m (from + n) 0))
+shifted-more to from n l m a le h = record {
+  is = λ q r. moved q r (ℕ-discrete q n);
+  rest = λ i r. other i (λ e. ⊎-elim (λ (y : i < to). omega arith) (λ y. omega arith) r) ∙ a .rest i (⊎-elim inl (λ y. inr (omega arith)) r);
+}
+  where
+    new : List ℕ
+    new = set m (to + n) (getD m (from + n) 0)
+
+    other : (i : ℕ) → i ≢ to + n → getD new i 0 ≡ getD m i 0
+    other i ne = getD-set-other m (to + n) i (getD m (from + n) 0) 0 ne
+
+    moved : (q : ℕ) → q < n + 1 → Dec (q ≡ n) → getD new (to + q) 0 ≡ getD l (from + q) 0
+    moved q r (yes e) =
+        subst (λ (y : ℕ). getD new (to + y) 0 ≡ getD l (from + y) 0) (sym e)
+        (getD-set-same m (to + n) (getD m (from + n) 0) 0 h ∙ a .rest (from + n) (inr (omega arith)))
+    moved q r (no ne) = other (to + q) (λ e. ne (omega arith)) ∙ a .is q (omega arith)
+
+pub shifted-all : {to from q n : ℕ} {l m : List ℕ} → q ≡ n → Shifted to from q l m → Shifted to from n l m
+shifted-all {to} {from} {q} {n} {l} {m} e a = subst (λ (y : ℕ). Shifted to from y l m) e a

@@ -1,8 +1,9 @@
-// Runs of numbers searched, and filled. Inner: called by other crates of the library, which meet the `requires`.
+// Runs of numbers searched, filled, and moved. Inner: called by other crates of the library, which meet the `requires`.
 ghost use mathlib.Core.Path.{_≡_};
 ghost use Prim.Native.Nat.{_+_, _≤_};
 ghost use lib.ListN.{length, replicate};
 ghost use lib.Seq.{sets};
+ghost use Rattle.scan.specs.Runs.{Shifted};
 ghost use Rattle.scan.specs.Scan as specs;
 
 // Where a test first holds, or that it holds nowhere.
@@ -36,5 +37,17 @@ pub fn fill(list: &mut [u64], from: usize, n: usize, x: u64)
     while i < n {
         list[from + i] = x;
         i += 1;
+    }
+}
+
+// Moves n numbers to the front, from `from` to `to`.
+pub fn shift(places: &mut [u64], to: usize, from: usize, n: usize)
+    requires { ⌜ (to ≤ from) × (from + n ≤ length (now places)) ⌝ }
+    ensures { λ _. ⌜ Shifted to from n (now (places .entry)) (now (places .exit)) ⌝ }
+{
+    let mut q: usize = 0;
+    while q < n {
+        places[to + q] = places[from + q];
+        q += 1;
     }
 }

@@ -1,13 +1,14 @@
 // What the routines give back to C: number, path and place as the specification tells them, and the values, which are 0 where something stands against the call.
 ghost use mathlib.Core.Path.{_≡_};
 ghost use Rattle.scan.specs.Scan.{pick};
-ghost use Rattle.answers.specs.Told.{answerTold, yesNoTold};
+ghost use Rattle.answers.specs.Told.{answerTold, yesNoTold, against, tell};
 ghost use Rattle.mesh.specs.Kinds.{kindOf};
 ghost use Rattle.judge.specs.Says.{verdictTold};
 ghost use Rattle.survivors.specs.Tally.{tallyTold};
 ghost use Rattle.sheet.specs.Says.{writtenTold, readingTold};
 ghost use Rattle.shapes.specs.Shapes as specs;
 use answers::Answer;
+use answers::Checked;
 use answers::YesNo;
 use judge::Verdict;
 use mesh::Mesh;
@@ -15,7 +16,7 @@ use sheet::Reading;
 use sheet::Written;
 use survivors::Tally;
 
-// One value: hops, a distance, 1 or 0 for yes or no, how many paths are whole, how many bytes were written.
+// One value: hops, a distance, 1 or 0 for yes or no, how many paths are planned or are whole, how many bytes were written.
 #[repr(C)]
 pub struct GustAnswer {
     pub number: u64,
@@ -97,6 +98,26 @@ pub fn of_yes_no(a: YesNo) -> GustAnswer
         path: 0,
         place: a.place() as u64,
         value: flag(a.yes()),
+    }
+}
+
+// What a planner says, with how many paths it was asked for.
+pub fn of_checked(c: Checked, paths: u64) -> GustAnswer
+    ensures { λ r. ⌜ r ≡ specs.answerIn (tell (against c) 0 paths) ⌝ }
+{
+    match c {
+        Checked::Fine => GustAnswer {
+            number: 0,
+            path: 0,
+            place: 0,
+            value: paths,
+        },
+        Checked::Refused(why) => GustAnswer {
+            number: why.number(),
+            path: 0,
+            place: why.place() as u64,
+            value: 0,
+        },
     }
 }
 

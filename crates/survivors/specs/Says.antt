@@ -1,5 +1,5 @@
--- What survivors promises: what comes back, and what the three columns hold afterwards. Where something stands against the request or is found, no
--- path is counted and the columns stay as they were.
+-- What survivors promises of a fan or a bundle (`Survived`): what comes back, and what the three columns hold afterwards. Where something stands against
+-- what is asked or is found, no path is counted and the columns stay as they were. Definitions; assumes nothing.
 use Prim.Native.Nat.{ℕ}
 use mathlib.Core.Path.{_≡_}
 use mathlib.Core.Bool.{Bool, true}
@@ -9,11 +9,10 @@ use lib.Dec.{ltb}
 use lib.ListN.{length, take}
 use Rattle.scan.specs.Scan.{pick, count}
 use Rattle.answers.specs.declared.Refusal.{Refusal}
-use Rattle.paths.specs.Mesh.{width}
-use Rattle.paths.specs.Finding.{Finding, clean, found, finding}
+use Rattle.paths.specs.Rules.{span}
+use Rattle.paths.specs.Finding.{Finding, clean, found}
 use Rattle.paths.specs.Whole.{Failed, whole}
-use Rattle.mesh.specs.Kinds.{Kind}
-use Rattle.judge.specs.Says.{judgeAgainst, judgeTold}
+use Rattle.judge.specs.Says.{Asked, askedAgainst, askedFinding, askedTold}
 use Rattle.columns.specs.Says.{ahead, marks}
 use Rattle.survivors.specs.Tally.{Tallied, tallied, tallyTold}
 use Rattle.survivors.specs.declared.Tally.{Tally}
@@ -22,7 +21,7 @@ use Rattle.survivors.specs.declared.Tally.{Tally}
 abbrev pub few : (k a b c : ℕ) → Bool
 few k a b c = pick (ltb a k) true (pick (ltb b k) true (ltb c k))
 
--- the one where nothing stands against the request and nothing is found, else the other
+-- the one where nothing stands against it and nothing is found, else the other
 abbrev pub settled : {A : Type 0} → Option Refusal → Finding → A → A → A
 settled none clean a b = a
 settled none (found n i p) a b = b
@@ -32,18 +31,23 @@ settled (some why) f a b = b
 abbrev pub lacking : (targets ends hops wholes : List ℕ) → Bool
 lacking targets ends hops wholes = few (length targets) (length ends) (length hops) (length wholes)
 
-module _ (K : Kind) (n s : ℕ) (targets places counts : List ℕ) (fails : Failed) (ends hops wholes : List ℕ) where
+module _ (q : Asked) (places counts : List ℕ) (fails : Failed) (ends hops wholes : List ℕ) where
+  -- how many paths there are, and which of them are whole
+  abbrev k : ℕ
+  k = length (q .targets)
+
+  abbrev isWhole : ℕ → Bool
+  isWhole = whole (span (q .rules)) places counts fails
+
   abbrev settle : {A : Type 0} → A → A → A
-  settle a b = settled (judgeAgainst K n s targets places counts (lacking targets ends hops wholes)) (finding (K .mesh n) s targets places counts) a b
+  settle a b = settled (askedAgainst q places counts (lacking (q .targets) ends hops wholes)) (askedFinding q places counts) a b
 
   -- number, path, place, and the count
   abbrev pub survivorsTold : Tallied
-  survivorsTold =
-      tallied (judgeTold K n s targets places counts (lacking targets ends hops wholes))
-      (settle (count (whole (width (K .mesh n)) places counts fails) (length targets)) 0)
+  survivorsTold = tallied (askedTold q places counts (lacking (q .targets) ends hops wholes)) (settle (count isWhole k) 0)
 
   pub record Survived (r : Tally) (ends₁ hops₁ wholes₁ : List ℕ) : Type 0 where
     pub told : tallyTold r ≡ survivorsTold
-    pub ended : ends₁ ≡ settle (ahead (length targets) targets ends) ends
-    pub hopped : hops₁ ≡ settle (ahead (length targets) (take (length targets) counts) hops) hops
-    pub marked : wholes₁ ≡ settle (ahead (length targets) (marks (whole (width (K .mesh n)) places counts fails) (length targets)) wholes) wholes
+    pub ended : ends₁ ≡ settle (ahead k (q .targets) ends) ends
+    pub hopped : hops₁ ≡ settle (ahead k (take k counts) hops) hops
+    pub marked : wholes₁ ≡ settle (ahead k (marks isWhole k) wholes) wholes

@@ -4,7 +4,7 @@ use Prim.Native.Nat.{ℕ}
 use mathlib.Core.Path.{_≡_, refl, sym, ap, ap₂, _∙_}
 use mathlib.Core.List.{List}
 use Rattle.paths.specs.Whole.{Failed}
-use Rattle.mesh.specs.Kinds.{Kind}
+use Rattle.judge.specs.Says.{Asked}
 use Rattle.judge.specs.Unique.{verdict-unique}
 use Rattle.judge.specs.declared.Verdict.{Verdict}
 use Rattle.judge.specs.declared.Verdict.the-variants as verdict
@@ -28,13 +28,12 @@ pub tally-unique : (a b : Tally) → tallyTold a ≡ tallyTold b → a ≡ b
 tally-unique a b e =
     sym (tally-back a) ∙ ap₂ tallyOf (verdict-unique (verdictOf a) (verdictOf b) (ap rulingOf e)) (ap wholeOf e) ∙ tally-back b
 
-pub survived-unique : (K : Kind) (n s : ℕ) (targets places counts : List ℕ) (fails : Failed) (ends hops wholes : List ℕ) (a b : Tally) (ends₁ hops₁ wholes₁ ends₂ hops₂ wholes₂ : List ℕ)
-    → Survived K n s targets places counts fails ends hops wholes a ends₁ hops₁ wholes₁
-    → Survived K n s targets places counts fails ends hops wholes b ends₂ hops₂ wholes₂
+pub survived-unique : (q : Asked) (places counts : List ℕ) (fails : Failed) (ends hops wholes : List ℕ) (a b : Tally) (ends₁ hops₁ wholes₁ ends₂ hops₂ wholes₂ : List ℕ)
+    → Survived q places counts fails ends hops wholes a ends₁ hops₁ wholes₁ → Survived q places counts fails ends hops wholes b ends₂ hops₂ wholes₂
     → (a ≡ b) × (ends₁ ≡ ends₂) × (hops₁ ≡ hops₂) × (wholes₁ ≡ wholes₂)
-survived-unique K n s targets places counts fails ends hops wholes a b ends₁ hops₁ wholes₁ ends₂ hops₂ wholes₂ p q = (
-  tally-unique a b (p .told ∙ sym (q .told)),
-  p .ended ∙ sym (q .ended),
-  p .hopped ∙ sym (q .hopped),
-  p .marked ∙ sym (q .marked),
+survived-unique q places counts fails ends hops wholes a b ends₁ hops₁ wholes₁ ends₂ hops₂ wholes₂ p r = (
+  tally-unique a b (p .told ∙ sym (r .told)),
+  p .ended ∙ sym (r .ended),
+  p .hopped ∙ sym (r .hopped),
+  p .marked ∙ sym (r .marked),
 )

@@ -1,6 +1,9 @@
-// Survivors: which paths of a fan are whole where relays have stopped.
+// Survivors: which paths of a fan or a bundle are whole where relays have stopped.
+mod bundles;
+
+pub use bundles::bundle_survivors;
 ghost use mathlib.Core.Path.{_≡_};
-ghost use Rattle.judge.specs.Says.{numberOf, pathOf, placeOf};
+ghost use Rattle.judge.specs.Says.{numberOf, pathOf, placeOf, fanAsked};
 ghost use Rattle.paths.specs.Whole.{failed};
 ghost use Rattle.mesh.specs.Kinds.{kindOf};
 ghost use Rattle.survivors.specs.Tally as specs;
@@ -91,7 +94,7 @@ pub fn survivors(
     hops: &mut [u64],
     wholes: &mut [u64],
 ) -> Tally
-    ensures { λ r. ⌜ promise.Survived (kindOf (mesh .kind)) (mesh .size) source (now (targets .entry)) (now (places .entry)) (now (counts .entry)) (failed (now (stopped .entry))) (now (ends .entry)) (now (hops .entry)) (now (wholes .entry)) r (now (ends .exit)) (now (hops .exit)) (now (wholes .exit)) ⌝ }
+    ensures { λ r. ⌜ promise.Survived (fanAsked (kindOf (mesh .kind)) (mesh .size) source (now (targets .entry))) (now (places .entry)) (now (counts .entry)) (failed (now (stopped .entry))) (now (ends .entry)) (now (hops .entry)) (now (wholes .entry)) r (now (ends .exit)) (now (hops .exit)) (now (wholes .exit)) ⌝ }
 {
     let lacking = few(targets.len(), ends.len(), hops.len(), wholes.len());
     let verdict = judge::judge_with(mesh, source, targets, places, counts, lacking);

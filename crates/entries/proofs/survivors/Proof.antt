@@ -43,6 +43,7 @@ use denote.Exit.{yes}
 use Rattle.mesh.specs.declared.Mesh.{Mesh}
 use Rattle.mesh.specs.Kinds.{kindOf}
 use Rattle.paths.specs.Whole.{failed}
+use Rattle.judge.specs.Says.{fanAsked}
 use Rattle.survivors.specs.declared.Tally.{Tally}
 use Rattle.entries.specs.declared.Entry.{Entry}
 use Rattle.entries.specs.declared.gathered.Gathered.{Gathered}
@@ -119,7 +120,7 @@ module _ {M : Type 1} (𝓤 : URA M) (H : Heap 𝓤) (A : Atoms 𝓤) (mem : Mem
   StoreC = tripleOf 𝓤 H A store.signature (store.spec 𝓤 H A mem run)
 
   abbrev Gathered-by : Asked → Gathered → Type 0
-  Gathered-by a = Gathers (kindOf (a .0 .kind)) (a .0 .size) (a .1 .0) (now (a .1 .1 .0)) (now (a .1 .1 .1 .0)) (now (a .1 .1 .1 .1 .0)) (failed (now (a .1 .1 .1 .1 .1 .0))) (a .1 .1 .1 .1 .1 .1 .0)
+  Gathered-by a = Gathers (fanAsked (kindOf (a .0 .kind)) (a .0 .size) (a .1 .0) (now (a .1 .1 .0))) (now (a .1 .1 .1 .0)) (now (a .1 .1 .1 .1 .0)) (failed (now (a .1 .1 .1 .1 .1 .0))) (a .1 .1 .1 .1 .1 .1 .0)
 
   gather-said : (κ′ : Lft) (a : Asked) (r : Gathered) → ent 𝓤 (ensured 𝓤 H A gather.ended (gather.clauses 𝓤 H A mem run) (κ′, tt) a tt r) (fact 𝓤 (Gathered-by a r))
   gather-said κ′ a r = exE 𝓤 _ (λ ls. snd∗ 𝓤 (sem 𝓤 H A (lasts gather.ended (κ′, tt) a ls)) (fact 𝓤 (Gathered-by a r)))
@@ -221,7 +222,7 @@ module _ {M : Type 1} (𝓤 : URA M) (H : Heap 𝓤) (A : Atoms 𝓤) (W : Given
     exits r v zs e l =
         qed W (‵ (Y.the-row .own r (v ∷ [])) ∷ (‵ (flft κ q) ⊛ ‵ ftrue) ∷ ‵ (finally T.the-row γ zs) ∷ (‵ (flft κ′ q′) ⊛ ‵ ftrue) ∷ ‵ Kept ∷ []) ∵
         suffices ! _ (ends-at 𝓤 H A f.ended stayed (f.clauses 𝓤 H A mem run) W ((κs, (q′, (q, tt)), tt, x, at), tt) v r (tt, (tt, (tt, (tt, (tt, (tt, (zs, tt))))))) (tt, (tt, (tt, (tt, (tt, (tt, (l, tt)))))))) $
-        says ! (listed (kindOf (mesh .kind)) (mesh .size) source (tx .now) (px .now) (cx .now) (failed (sx .now)) xs p (e .0) (e .1)) $
+        says ! (listed (fanAsked (kindOf (mesh .kind)) (mesh .size) source (tx .now)) (px .now) (cx .now) (failed (sx .now)) xs p (e .0) (e .1)) $
         move ! (3 ∷ []) $ split ! $ move ! (0 ∷ 3 ∷ []) $ join ! $ frame ! $
         -- [true; the result; the last list; Kept]
         move ! (2 ∷ 0 ∷ []) $ fjoin ! $ move ! (2 ∷ []) $ fsplit ! $ move ! (1 ∷ []) $ fsplit ! $ move ! (1 ∷ []) $ fsplit ! $ move ! (1 ∷ []) $ fsplit ! $

@@ -33,6 +33,12 @@ enum-told-4 c = search needs
 add-result-2 : tie.Need-add-result-2
 add-result-2 c = omega (arith, known-most (c .before .before .args .n) refl (c .before .before .pre))
 
+enum-told-5 : tie.Need-enum-told-5
+enum-told-5 c = search needs
+
+add-result-3 : tie.Need-add-result-3
+add-result-3 c = omega (arith, known-most (c .before .before .args .n) refl (c .before .before .pre))
+
 returns : tie.Need-returns
 returns c = c .power .ensures ∙ ap (λ (w : Fact). factOf w (cube (c .before .before .before .args .n))) (sym (c .before .enum-told .given .1))
 
@@ -44,6 +50,9 @@ returns-3 c = ap (λ (w : Fact). factOf w (cube (c .before .before .args .n))) (
 
 returns-4 : tie.Need-returns-4
 returns-4 c = omega (arith, ap (λ (w : Fact). factOf w (cube (c .before .before .args .n))) (c .enum-told4 .given .1))
+
+returns-5 : tie.Need-returns-5
+returns-5 c = omega (arith, ap (λ (w : Fact). factOf w (cube (c .before .before .args .n))) (c .enum-told5 .given .1))
 
 pub cube-fact-spec : {M : Type 1} → statement M
 cube-fact-spec =
@@ -57,7 +66,10 @@ cube-fact-spec =
     add-result
     enum-told-4
     add-result-2
+    enum-told-5
+    add-result-3
     returns
     returns-2
     returns-3
-    returns-4)
+    returns-4
+    returns-5)

@@ -1,6 +1,6 @@
 -- `mesh::two_fact` meets its contract: a known order is small. Assumes nothing.
 use Prim.Native.Nat.{ℕ, _+_, _≤_}
-use mathlib.Core.Path.{sym, ap, _∙_}
+use mathlib.Core.Path.{_≡_, sym, ap, _∙_}
 use native.Mathlib.Omega.{arith}
 use Rattle.two_parts.specs.Two.{two, longest}
 use Rattle.two_parts.specs.Parts.{known-bounds, longest-few}
@@ -40,6 +40,15 @@ longest-in-requires-2 c κs = few (c .before .before)
 add-result-2 : tie.Need-add-result-2
 add-result-2 c = let s = c .before .before .before in omega (arith, c .longest-in2 .ensures, longest-few (s .args .m) (few s))
 
+enum-told-5 : tie.Need-enum-told-5
+enum-told-5 c = search needs
+
+longest-in-requires-3 : tie.Need-longest-in-requires-3
+longest-in-requires-3 c κs = few (c .before .before)
+
+add-result-3 : tie.Need-add-result-3
+add-result-3 c = let s = c .before .before .before in omega (arith, c .longest-in3 .ensures, longest-few (s .args .m) (few s))
+
 returns : tie.Need-returns
 returns c = c .relays-in .ensures ∙ ap (λ (w : Fact). factOf w (two (c .before .before .before .args .m))) (sym (c .before .enum-told .given .1))
 
@@ -54,6 +63,11 @@ returns-4 c =
     ap (λ (x : ℕ). x + 1) (c .longest-in2 .ensures)
     ∙ ap (λ (w : Fact). factOf w (two (c .before .before .before .args .m))) (sym (c .before .enum-told4 .given .1))
 
+returns-5 : tie.Need-returns-5
+returns-5 c =
+    let more : c .longest-in3 .result + 2 ≡ longest (c .before .before .before .args .m) + 1 + 1 = omega (arith, c .longest-in3 .ensures) in
+    more ∙ ap (λ (w : Fact). factOf w (two (c .before .before .before .args .m))) (sym (c .before .enum-told5 .given .1))
+
 pub two-fact-spec : {M : Type 1} → statement M
 two-fact-spec =
     tie.close
@@ -67,7 +81,11 @@ two-fact-spec =
     enum-told-4
     longest-in-requires-2
     add-result-2
+    enum-told-5
+    longest-in-requires-3
+    add-result-3
     returns
     returns-2
     returns-3
-    returns-4)
+    returns-4
+    returns-5)

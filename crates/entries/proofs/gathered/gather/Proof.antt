@@ -1,7 +1,9 @@
 -- `entries::gathered::gather` meets its contract: the plain function's columns, of as many places as there is room for. Assumes nothing.
 use mathlib.Core.Path.{sym, refl}
 use Rattle.paths.specs.Whole.{failed}
-use Rattle.entries.specs.Laws.{capped-most, capped-length, gathered}
+use Rattle.mesh.specs.Kinds.{kindOf}
+use Rattle.judge.specs.Says.{fanAsked}
+use Rattle.entries.specs.Laws.{capped-most, capped-length, fan-few, gathered}
 use borrow.Author.Needs.{needs}
 use Rattle.entries.proofs.gathered.gather.Statement.{statement}
 use Rattle.entries.proofs.gathered.gather.Tie as tie
@@ -38,8 +40,8 @@ returns c =
     let v = c .before .before .before .before in
     let m = v .before .before .before .before in
     let a = m .before .before .before .before .before .args in
-    gathered (a .mesh .kind) (a .mesh .size) (a .source) (a .targets .now) (a .places .now) (a .counts .now) (failed (a .stopped .now)) (a .room) _ _ _ _ _ _ refl (m .most .ensures) (v .survivors .ensures)
-    (c .taken .ensures)
+    gathered (fanAsked (kindOf (a .mesh .kind)) (a .mesh .size) (a .source) (a .targets .now)) (fan-few (a .mesh .kind) (a .mesh .size) (a .source) (a .targets .now))
+    (a .places .now) (a .counts .now) (failed (a .stopped .now)) (a .room) _ _ _ _ _ _ refl (m .most .ensures) (v .survivors .ensures) (λ e. refl) (c .taken .ensures)
 
 pub gather-spec : {M : Type 1} → statement M
 gather-spec =

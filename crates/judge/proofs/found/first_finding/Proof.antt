@@ -1,8 +1,11 @@
 -- `judge::found::first_finding` meets its contract: the invariant is that nothing was found on the paths passed. Assumes nothing.
 use Prim.Native.Nat.{_-_}
+use mathlib.Core.Path.{ap}
+use mathlib.Core.Option.{none}
 use native.Mathlib.Omega.{arith}
 use lib.ListN.{length}
 use Rattle.judge_rows.specs.Rules.{rulesOf}
+use Rattle.judge.specs.Says.{rule}
 use Rattle.judge.specs.Search.{Searched, search-starts, search-room, search-goes-on, search-finds, search-ends}
 use borrow.Author.Needs.{needs}
 use Rattle.judge.proofs.found.first_finding.Statement.{statement}
@@ -46,8 +49,8 @@ returns c =
     let k = c .before .before .before in
     let l = k .before .before .before in
     let a = l .before .before .before .before .args in
-    search-finds (rulesOf (a .rules)) (a .source) (a .targets .now) (a .places .now) (a .counts .now) (l .loop .inv) (k .before .before .loop-test .taken)
-    (c .before .looked .given .1) (k .look .ensures)
+    ap (rule none) (search-finds (rulesOf (a .rules)) (a .source) (a .targets .now) (a .places .now) (a .counts .now) (l .loop .inv) (k .before .before .loop-test .taken)
+    (c .before .looked .given .1) (k .look .ensures))
 
 enum-told : tie.Need-enum-told Inv-loop μ-loop
 enum-told c = search needs
@@ -70,7 +73,7 @@ returns-2 : tie.Need-returns-2 Inv-loop μ-loop
 returns-2 c =
     let l = c .before in
     let a = l .before .before .before .before .args in
-    search-ends (rulesOf (a .rules)) (a .source) (a .targets .now) (a .places .now) (a .counts .now) (l .loop .inv) (c .loop-test .left)
+    ap (rule none) (search-ends (rulesOf (a .rules)) (a .source) (a .targets .now) (a .places .now) (a .counts .now) (l .loop .inv) (c .loop-test .left))
 
 pub first-finding-spec : {M : Type 1} → statement M
 first-finding-spec =

@@ -1,0 +1,247 @@
+-- Why the planner's call keeps its promise: the place of a refusal is small (`request-place`); a fan planned in room enough is written whole (`lay-sheeted`, `lay-answered`);
+-- what stands against a list of targets (`list-refused`, `list-short`, `list-done`); and of more than 33 targets the first 33 tell all (`cut-planned`).
+-- Assumes nothing.
+use Prim.Native.Nat.{ℕ, _+_, _-_, _*_, _/_, _%_, _≤_, _<_}
+use mathlib.Core.Path.{_≡_, refl, sym, ap, _∙_, subst}
+use mathlib.Core.Bool.{Bool, true, false, not}
+use mathlib.Core.Logic.{_⊎_, inl, inr, _≢_}
+use mathlib.Core.List.{List, _++_}
+use mathlib.Core.Option.{Option, none, some}
+use native.Mathlib.Nat.{mul-le-mul, mul-le-mul-right, le-trans}
+use native.Mathlib.Omega.{arith}
+use lib.Dec.{eqb, leb, ltb}
+use lib.ListN.{length, take, drop}
+use lib.Seq.{sets, take-at}
+use borrow.Author.Tests.{not-false, ltb-true, ltb-false, lt-ltb, le-ltb, eq-eqb, ne-eqb}
+use Rattle.scan.specs.Scan.{Spot, nowhere, at, pick}
+use Rattle.scan.specs.Laws.{seek-first, true-or}
+use Rattle.answers.specs.Order.{first, refuse, refuse-at, firstAt, isOut, isSame, isAgain}
+use Rattle.answers.specs.Told.{place, against}
+use Rattle.answers.specs.declared.Refusal.{Refusal}
+use Rattle.answers.specs.declared.Refusal.the-variants.{Unreadable, UnknownSize, SourceOut, NoTarget, TooMany, TargetOut, TargetIsSource, TargetAgain, NoRoom}
+use Rattle.answers.specs.declared.Checked.{Checked}
+use Rattle.answers.specs.declared.Checked.the-variants as checked
+use Rattle.paths.specs.Mesh.{width}
+use Rattle.paths.specs.Fan.{Fan}
+use Rattle.mesh.specs.Kinds.{kindOf, meshOf, known}
+use Rattle.mesh.specs.Limits.{mostLinks, known-links, known-width, known-places}
+use Rattle.mesh.specs.Says.{requestAgainst, short}
+use Rattle.mesh.specs.Requests.{Fine, request-fine, checked-fine, request-refused, request-short, request-granted, room-enough}
+use Rattle.requests.specs.Planned as requests
+use Rattle.requests.specs.Planned.{not-both}
+use Rattle.planner.specs.Needs as planner
+use Rattle.sheet.specs.Format.{relaysAt}
+use Rattle.sheet.specs.Says.{settled, flawed}
+use Rattle.sheet.specs.Pieces.{at-front}
+use Rattle.sheet.specs.Lengths.{relays-count}
+use Rattle.sheet.specs.Most.{fan-sheet-most}
+use Rattle.judge.specs.Alike.{enough}
+use Rattle.sheet.specs.Judging.{Judged}
+use Rattle.sheet.specs.declared.Flaw.{Flaw}
+use Rattle.sheet.specs.declared.Flaw.the-variants as flaw
+use Rattle.sheet_write.specs.Says.{bytes}
+use Rattle.sheet_write.specs.Says as write
+use Rattle.sheet_write.specs.Needs.{Sheeted}
+use Rattle.sheet_write.specs.Writing.{judged-sheeted}
+use Rattle.sheet.specs.declared.Written.{Written}
+use Rattle.region.specs.Says.{codeOf, most, targetsIn, listAgainst, planAgainst, Answered, Planned}
+use Rattle.region.specs.Needs.{Roomy, Layable, few}
+
+some-inj : {x y : Refusal} → some x ≡ some y → x ≡ y
+some-inj e = cc
+
+-- ---- the place of a refusal
+
+module _ (why : Refusal) where
+  through : (b : Bool) (x : Refusal) (rest : Option Refusal) → place x < 256 → (b ≡ false → rest ≡ some why → place why < 256) → refuse b x rest ≡ some why → place why < 256
+  through true x rest p q e = subst (λ (y : Refusal). place y < 256) (some-inj e) p
+  through false x rest p q e = q refl e
+
+  through-at : (sp : Spot) (f : ℕ → Refusal) (rest : Option Refusal) → ((p : ℕ) → sp ≡ at p → place (f p) < 256) → (rest ≡ some why → place why < 256) → refuse-at sp f rest ≡ some why → place why < 256
+  through-at nowhere f rest p q e = q e
+  through-at (at j) f rest p q e = subst (λ (y : Refusal). place y < 256) (some-inj e) (p j refl)
+
+  request-small : (kind size s : ℕ) (targets : List ℕ) → requestAgainst (kindOf kind) size s targets false ≡ some why → place why < 256
+  request-small kind size s targets =
+      through (not (known kind size)) UnknownSize _ (omega arith) (λ k.
+      through (leb (meshOf kind size .relays) s) SourceOut _ (omega arith) (λ a.
+      through (eqb (length targets) 0) NoTarget _ (omega arith) (λ b.
+      through (ltb (meshOf kind size .links) (length targets)) TooMany _ (omega arith) (λ m.
+      let below : (test : ℕ → Bool) (p : ℕ) → firstAt targets test ≡ at p → p < 256 =
+      λ test p e. omega (arith, seek-first test 0 (length targets) p e .within, ltb-false (meshOf kind size .links) (length targets) m, known-links kind size (not-false (known kind size) k)) in
+      through-at (firstAt targets (isOut (meshOf kind size .relays) targets)) TargetOut _ (below (isOut (meshOf kind size .relays) targets))
+      (through-at (firstAt targets (isSame s targets)) TargetIsSource _ (below (isSame s targets))
+      (through-at (firstAt targets (isAgain targets)) TargetAgain _ (below (isAgain targets)) (λ e. not-both refl (sym e))))))))
+
+pub request-place : (kind size s : ℕ) (targets : List ℕ) {r : Checked} {why : Refusal} → r ≡ checked.Refused why → against r ≡ requestAgainst (kindOf kind) size s targets false → place why < 256
+request-place kind size s targets {r} {why} f e = request-small why kind size s targets (sym e ∙ ap against f)
+
+-- ---- the most bytes of a sheet
+
+-- w is what code has of the places of a path
+module _ (kind size k : ℕ) {w : ℕ} (e : w ≡ width (meshOf kind size)) where
+  longest-is : w - 1 ≡ meshOf kind size .longest
+  longest-is = omega (arith, e)
+
+  pub most-few : known kind size ≡ true → k ≤ meshOf kind size .links → (8 * (w - 1) ≤ 1648) × (k * (2 + 8 * (w - 1)) ≤ 52800)
+  most-few h g =
+      let wide : 2 + 8 * (w - 1) ≤ 1650 = omega (arith, longest-is, known-width kind size h) in
+      (omega arith, le-trans (mul-le-mul (le-trans g (known-links kind size h)) wide) (omega arith))
+
+  pub most-is : 16 + k * (2 + 8 * (w - 1)) ≡ most (meshOf kind size) k
+  most-is = ap (λ (x : ℕ). 16 + k * (2 + 8 * x)) longest-is
+
+-- ---- a fan planned in room enough, and written
+
+module _ (kind size s : ℕ) (targets : List ℕ) where
+  wide : {places counts out : ℕ} → Layable kind size s targets places counts out → short (meshOf kind size) (length targets) places counts ≡ false
+  wide {places} {counts} {out} p =
+      let fine = request-fine (kindOf kind) size s targets (p .clear) in
+      let all = mul-le-mul-right (width (meshOf kind size)) (fine .sound .few) in
+      let placed : length targets * width (meshOf kind size) ≤ places = omega (arith, all, known-places kind size (fine .known), p .roomy .placed) in
+      let counted : length targets ≤ counts = omega (arith, fine .sound .few, known-links kind size (fine .known), p .roomy .counted) in
+      enough (meshOf kind size) (length targets) places counts placed counted
+
+  -- what laying a fan asks
+  pub lay-able : {places counts out : ℕ} → Layable kind size s targets places counts out → planner.Layable kind size s targets places counts
+  lay-able p = record { clear = p .clear; room = wide p }
+
+  module _ {places counts places₁ counts₁ : List ℕ} {out : ℕ} (p : Layable kind size s targets (length places) (length counts) out)
+      (f : requests.Planned none (meshOf kind size) s targets places counts checked.Fine places₁ counts₁) where
+    pub lay-judged : Judged (kindOf kind) size s targets places₁ counts₁
+    lay-judged =
+        let room = room-enough (meshOf kind size) (length targets) (length places) (length counts) (wide p) in
+        record { request = p .clear; room = omega (arith, room .0, f .as-long); counted = omega (arith, room .1, f .as-long-counts); fan = f .paths refl }
+
+    pub lay-sheeted : Sheeted kind size (length targets) (length places₁) counts₁
+    lay-sheeted = judged-sheeted kind size s targets places₁ counts₁ lay-judged
+
+  pub lay-answered : {places counts places₁ counts₁ out out₁ : List ℕ} {w : Written} → Layable kind size s targets (length places) (length counts) (length out)
+      → requests.Planned none (meshOf kind size) s targets places counts checked.Fine places₁ counts₁
+      → write.Put kind size s (length targets) places₁ counts₁ out w out₁ → Answered kind size s targets out out₁
+  lay-answered {places} {counts} {places₁} {counts₁} {out} {out₁} p f q =
+      let sheet = bytes kind size s (length targets) places₁ counts₁ in
+      let j = lay-judged p f in
+      let fits : length sheet ≤ length out = omega (arith, fan-sheet-most (meshOf kind size) s targets places₁ counts₁ (j .fan) kind size, p .long) in
+      record {
+        places = places₁;
+        counts = counts₁;
+        fan = j .fan;
+        placed = j .room;
+        counted = j .counted;
+        held = q .held ∙ ap (λ (b : Bool). settled (flawed b flaw.NoRoom none) (sheet ++ drop (length sheet) out) out) (le-ltb (length out) (length sheet) fits);
+      }
+
+-- ---- a list of targets
+
+pub refusal : {o : Option Refusal} {why : Refusal} {r : ℕ} (kind size s : ℕ) (targets out : List ℕ) → some why ≡ o → r ≡ codeOf (some why) → Planned o kind size s targets out r out
+refusal kind size s targets out e p = record {
+  told = p ∙ ap codeOf e;
+  answered = λ z. not-both (sym e) z;
+  refused = λ w z. refl;
+}
+
+abbrev want : (kind size : ℕ) (targets out : List ℕ) → Bool
+want kind size targets out = ltb (length out) (most (meshOf kind size) (length targets))
+
+module _ (kind size s : ℕ) (targets out : List ℕ) {c : Checked} (e : against c ≡ requestAgainst (kindOf kind) size s targets false) where
+  pub list-refused : {why : Refusal} {r : ℕ} → c ≡ checked.Refused why → r ≡ codeOf (some why) → Planned (listAgainst kind size s targets out) kind size s targets out r out
+  list-refused f p = refusal kind size s targets out (request-refused (kindOf kind) size s targets e (want kind size targets out) f) p
+
+  pub list-known : c ≡ checked.Fine → (known kind size ≡ true) × (length targets ≤ meshOf kind size .links)
+  list-known f = let fine = checked-fine (kindOf kind) size s targets e f in (fine .known, fine .sound .few)
+
+  pub list-short : {m r : ℕ} → c ≡ checked.Fine → m ≡ most (meshOf kind size) (length targets) → length out < m → r ≡ codeOf (some NoRoom)
+      → Planned (listAgainst kind size s targets out) kind size s targets out r out
+  list-short {m} f q h p = refusal kind size s targets out
+      (request-short (kindOf kind) size s targets e {room = want kind size targets out} f (ap (ltb (length out)) q) (lt-ltb (length out) m h)) p
+
+  pub list-layable : {m places counts : ℕ} → c ≡ checked.Fine → m ≡ most (meshOf kind size) (length targets) → m ≤ length out → Roomy places counts
+      → Layable kind size s targets places counts (length out)
+  list-layable f q h room = record { clear = sym e ∙ ap against f; roomy = room; long = omega (arith, q) }
+
+  pub list-done : {m : ℕ} {out₁ : List ℕ} → c ≡ checked.Fine → m ≡ most (meshOf kind size) (length targets) → m ≤ length out → Answered kind size s targets out out₁
+      → Planned (listAgainst kind size s targets out) kind size s targets out 0 out₁
+  list-done {m} {out₁} f q h a =
+      let o : none ≡ listAgainst kind size s targets out = request-granted (kindOf kind) size s targets e {room = want kind size targets out} f (ap (ltb (length out)) q) (le-ltb (length out) m h) in
+      record { told = ap codeOf o; answered = λ z. a; refused = λ why z. not-both z (sym o) }
+
+-- ---- the first 33 of more targets
+
+-- there are more than any relay has links
+many : (kind size s : ℕ) (targets out : List ℕ) → 32 < length targets → listAgainst kind size s targets out ≡ refuse (not (known kind size)) UnknownSize (refuse (leb (meshOf kind size .relays) s) SourceOut (some TooMany))
+many kind size s targets out h = go (true-or (known kind size))
+  where
+    rest : Option Refusal
+    rest = refuse (leb (meshOf kind size .relays) s) SourceOut (some TooMany)
+
+    go : (known kind size ≡ true) ⊎ (known kind size ≡ false) → listAgainst kind size s targets out ≡ refuse (not (known kind size)) UnknownSize rest
+    go (inl k) = let more : meshOf kind size .links < length targets = omega (arith, known-links kind size k) in
+        simp (ne-eqb (length targets) 0 (λ z. omega arith), lt-ltb (meshOf kind size .links) (length targets) more)
+    go (inr u) = simp u
+
+module _ (l : List ℕ) {k : ℕ} (e : k ≡ few (length l / 8)) where
+  pub few-most : (k ≤ 33) × (k * 8 ≤ length l)
+  few-most = go (true-or (ltb (length l / 8) 33))
+    where
+      go : (ltb (length l / 8) 33 ≡ true) ⊎ (ltb (length l / 8) 33 ≡ false) → (k ≤ 33) × (k * 8 ≤ length l)
+      go (inl t) = let same : k ≡ length l / 8 = e ∙ simp t in (omega (arith, ltb-true (length l / 8) 33 t), omega arith)
+      go (inr f) = let same : k ≡ 33 = e ∙ simp f in (omega arith, omega (arith, ltb-false (length l / 8) 33 f))
+
+module _ (kind size s : ℕ) (l list : List ℕ) {k : ℕ} (e : k ≡ few (length l / 8)) (h : 33 ≤ length list) where
+  -- what stands in the list
+  cut-taken : {list₁ : List ℕ} → list₁ ≡ sets list 0 (relaysAt l 0 k) → take k list₁ ≡ relaysAt l 0 k
+  cut-taken p =
+      ap (take k) (p ∙ at-front (relaysAt l 0 k) list (omega (arith, relays-count l 0 k, few-most l e .0)))
+      ∙ take-at (relaysAt l 0 k) (drop (length (relaysAt l 0 k)) list) k (relays-count l 0 k)
+
+  -- all targets, or more than there are links with the first 33 as with all
+  cut-same : (relaysAt l 0 k ≡ targetsIn l) ⊎ ((32 < length (relaysAt l 0 k)) × (32 < length (targetsIn l)))
+  cut-same = go (true-or (ltb (length l / 8) 33))
+    where
+      go : (ltb (length l / 8) 33 ≡ true) ⊎ (ltb (length l / 8) 33 ≡ false) → (relaysAt l 0 k ≡ targetsIn l) ⊎ ((32 < length (relaysAt l 0 k)) × (32 < length (targetsIn l)))
+      go (inl t) = inl (ap (relaysAt l 0) (e ∙ simp t))
+      go (inr f) =
+          let same : k ≡ 33 = e ∙ simp f in
+          inr (omega (arith, relays-count l 0 k), omega (arith, relays-count l 0 (length l / 8), ltb-false (length l / 8) 33 f))
+
+  pub cut-planned : {list₁ out out₁ : List ℕ} {r : ℕ} → length l % 8 ≡ 0 → list₁ ≡ sets list 0 (relaysAt l 0 k)
+      → Planned (listAgainst kind size s (take k list₁) out) kind size s (take k list₁) out r out₁ → Planned (planAgainst kind size s l out) kind size s (targetsIn l) out r out₁
+  cut-planned {list₁} {out} {out₁} {r} whole p q =
+      go cut-same (subst (λ (x : List ℕ). Planned (listAgainst kind size s x out) kind size s x out r out₁) (cut-taken p) q)
+    where
+      read : listAgainst kind size s (targetsIn l) out ≡ planAgainst kind size s l out
+      read = ap (λ (b : Bool). refuse (not b) Unreadable (listAgainst kind size s (targetsIn l) out)) (sym (eq-eqb (length l % 8) 0 whole))
+
+      as-read : Planned (listAgainst kind size s (targetsIn l) out) kind size s (targetsIn l) out r out₁ → Planned (planAgainst kind size s l out) kind size s (targetsIn l) out r out₁
+      as-read v = subst (λ (o : Option Refusal). Planned o kind size s (targetsIn l) out r out₁) read v
+
+      go : (relaysAt l 0 k ≡ targetsIn l) ⊎ ((32 < length (relaysAt l 0 k)) × (32 < length (targetsIn l)))
+          → Planned (listAgainst kind size s (relaysAt l 0 k) out) kind size s (relaysAt l 0 k) out r out₁ → Planned (planAgainst kind size s l out) kind size s (targetsIn l) out r out₁
+      go (inl same) v = as-read (subst (λ (x : List ℕ). Planned (listAgainst kind size s x out) kind size s x out r out₁) same v)
+      go (inr more) v =
+          let a = many kind size s (relaysAt l 0 k) out (more .0) in
+          let b = many kind size s (targetsIn l) out (more .1) in
+          as-read (record {
+            told = v .told ∙ ap codeOf (a ∙ sym b);
+            answered = λ z. never (not (known kind size)) (leb (meshOf kind size .relays) s) (sym b ∙ z);
+            refused = λ why z. v .refused why (a ∙ sym b ∙ z);
+          })
+        where
+          never : {A : Type 0} (u w : Bool) → refuse u UnknownSize (refuse w SourceOut (some TooMany)) ≡ none → A
+          never true w z = not-both refl z
+          never false true z = not-both refl z
+          never false false z = not-both refl z
+
+-- bytes that are no multiple of 8
+pub unreadable : (kind size s : ℕ) (l out : List ℕ) {r : ℕ} → length l % 8 ≢ 0 → r ≡ codeOf (some Unreadable) → Planned (planAgainst kind size s l out) kind size s (targetsIn l) out r out
+unreadable kind size s l out ne p = refusal kind size s (targetsIn l) out
+    (ap (λ (b : Bool). refuse (not b) Unreadable (listAgainst kind size s (targetsIn l) out)) (sym (ne-eqb (length l % 8) 0 ne))) p
+
+-- ---- how many targets are looked at
+
+pub few-all : (n : ℕ) → n < 33 → n ≡ few n
+few-all n h = ap (λ (b : Bool). pick b n 33) (sym (lt-ltb n 33 h))
+
+pub few-cut : (n : ℕ) → 33 ≤ n → 33 ≡ few n
+few-cut n h = ap (λ (b : Bool). pick b n 33) (sym (le-ltb n 33 h))

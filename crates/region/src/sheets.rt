@@ -1,0 +1,107 @@
+// A fan planned in room of its own and written as a sheet.
+ghost use mathlib.Core.Path.{_≡_};
+ghost use mathlib.Core.Bool.{true};
+ghost use Prim.Native.Nat.{_≤_};
+ghost use lib.ListN.{length};
+ghost use Rattle.mesh.specs.Kinds.{known, meshOf};
+ghost use Rattle.region.specs.Says.{most, Answered, Planned, listAgainst, planAgainst, targetsIn};
+ghost use Rattle.region.specs.Needs.{Layable, Roomy, Whole, few, Lent};
+use crate::code;
+use answers::Checked;
+use answers::Refusal;
+use mesh::Mesh;
+
+// The bytes that a sheet of k paths takes at most: of two paths in the cube of 2 dimensions 68.
+fn most_bytes(mesh: Mesh, k: usize) -> usize
+    requires { ⌜ (known (mesh .kind) (mesh .size) ≡ true) × (k ≤ meshOf (mesh .kind) (mesh .size) .links) ⌝ }
+    ensures { λ r. ⌜ r ≡ most (meshOf (mesh .kind) (mesh .size)) k ⌝ }
+{
+    let longest = (mesh::places_in(mesh) - 1) as usize;
+    16 + k * (2 + 8 * longest)
+}
+
+// Plans a fan in the places and counts, and writes its sheet at the front of `out`.
+fn lay(
+    mesh: Mesh,
+    source: u64,
+    targets: &[u64],
+    places: &mut [u64],
+    counts: &mut [u64],
+    out: &mut [u8],
+)
+    requires { ⌜ Layable (mesh .kind) (mesh .size) source (now targets) (length (now places)) (length (now counts)) (length (now out)) ⌝ }
+    ensures { λ _. ⌜ Answered (mesh .kind) (mesh .size) source (now (targets .entry)) (now (out .entry)) (now (out .exit)) ⌝ }
+{
+    planner::lay(mesh, source, targets, places, counts);
+    sheet_write::put_sheet(mesh, source, targets.len(), places, counts, out);
+}
+
+// The same, where nothing stands against it.
+fn plan_list(
+    mesh: Mesh,
+    source: u64,
+    targets: &[u64],
+    places: &mut [u64],
+    counts: &mut [u64],
+    out: &mut [u8],
+) -> u64
+    requires { ⌜ Roomy (length (now places)) (length (now counts)) ⌝ }
+    ensures { λ r. ⌜ Planned (listAgainst (mesh .kind) (mesh .size) source (now (targets .entry)) (now (out .entry))) (mesh .kind) (mesh .size) source (now (targets .entry)) (now (out .entry)) r (now (out .exit)) ⌝ }
+{
+    let checked = mesh::request(mesh, source, targets);
+    if let Checked::Refused(why) = checked {
+        return code(why);
+    }
+    if out.len() < most_bytes(mesh, targets.len()) {
+        return code(Refusal::NoRoom);
+    }
+    lay(mesh, source, targets, places, counts, out);
+    0
+}
+
+// How many targets are looked at: no relay has more than 32 links, so that what is said of 33 targets is said of more.
+fn looked_at(n: usize) -> usize
+    ensures { λ r. ⌜ r ≡ few n ⌝ }
+{
+    if n < 33 {
+        return n;
+    }
+    33
+}
+
+// Takes the targets out of their bytes into the list, and plans.
+fn plan_in(
+    mesh: Mesh,
+    source: u64,
+    bytes: &[u8],
+    list: &mut [u64],
+    places: &mut [u64],
+    counts: &mut [u64],
+    out: &mut [u8],
+) -> u64
+    requires { ⌜ Lent (now bytes) (length (now list)) (length (now places)) (length (now counts)) ⌝ }
+    ensures { λ r. ⌜ Planned (planAgainst (mesh .kind) (mesh .size) source (now (bytes .entry)) (now (out .entry))) (mesh .kind) (mesh .size) source (targetsIn (now (bytes .entry))) (now (out .entry)) r (now (out .exit)) ⌝ }
+{
+    let k = looked_at(bytes.len() / 8);
+    sheet_take::take_relays(bytes, 0, k, 0, list);
+    plan_list(mesh, source, &list[..k], places, counts, out)
+}
+
+// The same in room of its own: 32 paths of a cube take 1,088 places, and 6 of a two-level mesh 1,242.
+pub fn plan_bytes(mesh: Mesh, source: u64, bytes: &[u8], out: &mut [u8]) -> u64
+    requires { ⌜ Whole (now bytes) ⌝ }
+    ensures { λ r. ⌜ Planned (planAgainst (mesh .kind) (mesh .size) source (now (bytes .entry)) (now (out .entry))) (mesh .kind) (mesh .size) source (targetsIn (now (bytes .entry))) (now (out .entry)) r (now (out .exit)) ⌝ }
+{
+    let mut list = [0u64; 33];
+    let mut places = [0u64; mesh::MOST_PLACES];
+    let mut counts = [0u64; mesh::MOST_LINKS];
+    plan_in(
+        mesh,
+        source,
+        bytes,
+        &mut list,
+        &mut places,
+        &mut counts,
+        out,
+    )
+}
