@@ -1,0 +1,91 @@
+-- The rules case by case (`arrival-first`, `arrival-seen`, `arrival-marked`, `arrival-further`, `arrival-old`), and the wrapping difference
+-- (`minus-is`). Assumes nothing.
+use Prim.Native.Nat.{ℕ, zero, suc, _+_, _-_, _%_, _≤_, _<_}
+use mathlib.Core.Path.{_≡_, refl, sym, ap, _∙_}
+use mathlib.Core.Bool.{Bool, true, false}
+use native.Mathlib.Omega.{arith}
+use lib.Dec.{eqb, leb, ltb}
+use borrow.Author.Tests.{lt-ltb, le-ltb, le-leb, lt-leb, eq-eqb, ne-eqb}
+use Rattle.scan.specs.Scan.{pick}
+use Rattle.bits.specs.Bit.{bit, flip}
+use Rattle.arrivals.specs.Says.{minus, further, near, kept, moved, arrival}
+use Rattle.arrivals.specs.declared.Record.{Record}
+use Rattle.arrivals.specs.declared.Arrival.the-variants.{Passed, Seen, Old}
+
+-- ---- numbers that wrap
+
+-- the number that y added to wraps back to x
+pub minus-is : {x y d : ℕ} → d < 65536 → y < 65536 → (d + y) % 65536 ≡ x → d ≡ minus x y
+unfolding minus
+minus-is p q e = omega arith
+
+-- ahead and behind add up to nothing
+pub unlike : (n x : ℕ) → n < 65536 → x < 65536 → (minus x n + minus n x) % 65536 ≡ 0
+unfolding minus
+unlike n x p q = omega arith
+
+pub minus-below : (x y : ℕ) → minus x y < 65536
+unfolding minus
+minus-below x y = omega arith
+
+-- ---- the two tests
+
+pub further-true : (n x : ℕ) → 1 ≤ minus x n → minus x n ≤ 32767 → further n x ≡ true
+unfolding further
+further-true n x p q = simp (le-leb 1 (minus x n) p, le-leb (minus x n) 32767 q)
+
+-- more than 32,767 ahead: as good as behind
+pub further-far : (n x : ℕ) → 32767 < minus x n → further n x ≡ false
+unfolding further
+further-far n x p = simp (le-leb 1 (minus x n) (omega arith), lt-leb (minus x n) 32767 p)
+
+pub further-same : (n x : ℕ) → minus x n ≡ 0 → further n x ≡ false
+unfolding further
+further-same n x e = simp e
+
+pub near-true : (n x : ℕ) → minus n x < 64 → near n x ≡ true
+unfolding near
+near-true n x p = lt-ltb (minus n x) 64 p
+
+pub near-false : (n x : ℕ) → 64 ≤ minus n x → near n x ≡ false
+unfolding near
+near-false n x p = le-ltb (minus n x) 64 p
+
+-- the newest 64 are not ahead
+pub near-further : (n x : ℕ) → n < 65536 → x < 65536 → minus n x < 64 → further n x ≡ false
+unfolding minus
+near-further n x p q h = go (minus x n) refl
+  where
+    go : (d : ℕ) → d ≡ minus x n → further n x ≡ false
+    go zero e = further-same n x (sym e)
+    go (suc d) e = further-far n x (omega arith)
+
+-- ---- the rules
+
+module _ (r : Record) (x : ℕ) where
+  pub arrival-first : r .marks ≡ 0 → arrival r x ≡ Passed (kept x 1)
+  unfolding arrival
+  arrival-first e = simp (eq-eqb (r .marks) 0 e)
+
+  -- d ahead, b behind
+  module _ (some : r .marks ≡ 0 → ⊥) (fits : r .newest < 65536) (small : x < 65536) {d b : ℕ} (ahead : d ≡ minus x (r .newest)) (behind : b ≡ minus (r .newest) x) where
+    pub arrival-seen : b < 64 → bit b (r .marks) ≡ 1 → arrival r x ≡ Seen r
+    unfolding arrival
+    arrival-seen p e =
+        let h : minus (r .newest) x < 64 = omega arith in
+        simp (ne-eqb (r .marks) 0 some, near-further (r .newest) x fits small h, near-true (r .newest) x h, ← behind, e)
+
+    pub arrival-marked : b < 64 → bit b (r .marks) ≡ 0 → arrival r x ≡ Passed (kept (r .newest) (flip (r .marks) b))
+    unfolding arrival
+    arrival-marked p e =
+        let h : minus (r .newest) x < 64 = omega arith in
+        simp (ne-eqb (r .marks) 0 some, near-further (r .newest) x fits small h, near-true (r .newest) x h, ← behind, e)
+
+    pub arrival-further : 64 ≤ b → d ≤ 32767 → arrival r x ≡ Passed (kept x (moved (r .marks) d))
+    unfolding arrival
+    arrival-further p q =
+        simp (ne-eqb (r .marks) 0 some, further-true (r .newest) x (omega (arith, unlike (r .newest) x fits small, minus-below (r .newest) x)) (omega arith), ← ahead)
+
+    pub arrival-old : 64 ≤ b → 32767 < d → arrival r x ≡ Old r
+    unfolding arrival
+    arrival-old p q = simp (ne-eqb (r .marks) 0 some, further-far (r .newest) x (omega arith), near-false (r .newest) x (omega arith))

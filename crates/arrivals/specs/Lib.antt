@@ -1,0 +1,4 @@
+-- What becomes of a number that arrives.
+pub mod Says
+pub mod Laws
+pub mod Marks
