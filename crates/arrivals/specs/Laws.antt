@@ -5,7 +5,7 @@ use mathlib.Core.Path.{_≡_, refl, sym, ap, _∙_}
 use mathlib.Core.Bool.{Bool, true, false}
 use native.Mathlib.Omega.{arith}
 use lib.Dec.{eqb, leb, ltb}
-use borrow.Author.Tests.{lt-ltb, le-ltb, le-leb, lt-leb, eq-eqb, ne-eqb}
+use borrow.Author.Tests.{ltb-true, lt-ltb, le-ltb, le-leb, lt-leb, eq-eqb, ne-eqb}
 use Rattle.scan.specs.Scan.{pick}
 use Rattle.bits.specs.Bit.{bit, flip}
 use Rattle.arrivals.specs.Says.{minus, further, near, kept, moved, arrival}
@@ -27,6 +27,29 @@ unlike n x p q = omega arith
 pub minus-below : (x y : ℕ) → minus x y < 65536
 unfolding minus
 minus-below x y = omega arith
+
+pub minus-self : (x : ℕ) → x < 65536 → minus x x ≡ 0
+unfolding minus
+minus-self x h = omega arith
+
+pub minus-none : (x : ℕ) → x < 65536 → minus x 0 ≡ x
+unfolding minus
+minus-none x h = omega arith
+
+-- the number as far behind as x is, is x
+pub minus-back : (n x : ℕ) → n < 65536 → x < 65536 → minus n (minus n x) ≡ x
+unfolding minus
+minus-back n x p q = omega arith
+
+-- the newest moves on from n to x: what stood i behind stands so much further behind
+pub minus-older : (n x i : ℕ) → n < 65536 → x < 65536 → minus x n + i < 65536 → minus x (minus x n + i) ≡ minus n i
+unfolding minus
+minus-older n x i p q h = omega arith
+
+-- and the numbers between them are far behind n
+pub minus-between : (n x i : ℕ) → n < 65536 → x < 65536 → minus x n ≤ 32767 → 1 ≤ i → i < minus x n → 64 ≤ minus n (minus x i)
+unfolding minus
+minus-between n x i p q h g l = omega arith
 
 -- ---- the two tests
 
@@ -50,6 +73,13 @@ near-true n x p = lt-ltb (minus n x) 64 p
 pub near-false : (n x : ℕ) → 64 ≤ minus n x → near n x ≡ false
 unfolding near
 near-false n x p = le-ltb (minus n x) 64 p
+
+pub near-below : (n x : ℕ) → near n x ≡ true → minus n x < 64
+unfolding near
+near-below n x e = ltb-true (minus n x) 64 e
+
+pub near-self : (x : ℕ) → x < 65536 → near x x ≡ true
+near-self x h = near-true x x (omega (arith, minus-self x h))
 
 -- the newest 64 are not ahead
 pub near-further : (n x : ℕ) → n < 65536 → x < 65536 → minus n x < 64 → further n x ≡ false

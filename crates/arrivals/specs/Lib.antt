@@ -2,3 +2,6 @@
 pub mod Says
 pub mod Laws
 pub mod Marks
+pub mod History
+pub mod Moments
+pub mod Follows
