@@ -1,5 +1,5 @@
--- The rules case by case (`arrival-first`, `arrival-seen`, `arrival-marked`, `arrival-further`, `arrival-old`), and the wrapping difference
--- (`minus-is`). Assumes nothing.
+-- The rules case by case (`arrival-first`, `arrival-seen`, `arrival-marked`, `arrival-further`, `arrival-old`), the wrapping difference
+-- (`minus-is`), and that a refusal leaves the record as it was (`refused-leaves`). Assumes nothing.
 use Prim.Native.Nat.{ℕ, zero, suc, _+_, _-_, _%_, _≤_, _<_}
 use mathlib.Core.Path.{_≡_, refl, sym, ap, _∙_}
 use mathlib.Core.Bool.{Bool, true, false}
@@ -8,7 +8,7 @@ use lib.Dec.{eqb, leb, ltb}
 use borrow.Author.Tests.{ltb-true, lt-ltb, le-ltb, le-leb, lt-leb, eq-eqb, ne-eqb}
 use Rattle.scan.specs.Scan.{pick}
 use Rattle.bits.specs.Bit.{bit, flip}
-use Rattle.arrivals.specs.Says.{minus, further, near, kept, moved, arrival}
+use Rattle.arrivals.specs.Says.{minus, further, near, kept, moved, arrival, numberOf, recordOf}
 use Rattle.arrivals.specs.declared.Record.{Record}
 use Rattle.arrivals.specs.declared.Arrival.the-variants.{Passed, Seen, Old}
 
@@ -119,3 +119,20 @@ module _ (r : Record) (x : ℕ) where
     pub arrival-old : 64 ≤ b → 32767 < d → arrival r x ≡ Old r
     unfolding arrival
     arrival-old p q = simp (ne-eqb (r .marks) 0 some, further-far (r .newest) x (omega arith), near-false (r .newest) x (omega arith))
+
+-- ---- refusals
+
+-- a refusal leaves the record as it was
+pub refused-leaves : (r : Record) (x : ℕ) → (numberOf (arrival r x) ≡ 0 → ⊥) → recordOf (arrival r x) ≡ r
+unfolding arrival
+refused-leaves r x =
+    go (kept x 1) (kept x (moved (r .marks) (minus x (r .newest)))) (kept (r .newest) (flip (r .marks) (minus (r .newest) x)))
+    (eqb (r .marks) 0) (further (r .newest) x) (near (r .newest) x) (eqb (bit (minus (r .newest) x) (r .marks)) 1)
+  where
+    go : (u v w : Record) (a b c d : Bool) → (numberOf (pick a (Passed u) (pick b (Passed v) (pick c (pick d (Seen r) (Passed w)) (Old r)))) ≡ 0 → ⊥)
+        → recordOf (pick a (Passed u) (pick b (Passed v) (pick c (pick d (Seen r) (Passed w)) (Old r)))) ≡ r
+    go u v w true b c d ne = absurd (ne refl)
+    go u v w false true c d ne = absurd (ne refl)
+    go u v w false false true true ne = refl
+    go u v w false false true false ne = absurd (ne refl)
+    go u v w false false false d ne = refl

@@ -5,3 +5,4 @@ pub mod Marks
 pub mod History
 pub mod Moments
 pub mod Follows
+pub mod Worked

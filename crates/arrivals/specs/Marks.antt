@@ -28,7 +28,7 @@ pub moved-far : (m d : ℕ) → 64 ≤ d → 1 ≡ moved m d
 unfolding moved
 moved-far m d h =
     let parts : m * 2 ^ d ≡ m * 2 ^ (d - 64) * 2 ^ 64 =
-        ap (λ (y : ℕ). m * 2 ^ y) (omega arith) ∙ ap (λ (y : ℕ). m * y) (pow-add 2 (d - 64) 64) ∙ sym (mul-assoc m (2 ^ (d - 64)) (2 ^ 64)) in
+    ap (λ (y : ℕ). m * 2 ^ y) (omega arith) ∙ ap (λ (y : ℕ). m * y) (pow-add 2 (d - 64) 64) ∙ sym (mul-assoc m (2 ^ (d - 64)) (2 ^ 64)) in
     sym (ap (λ (y : ℕ). y % 2 ^ 64 + 1) parts ∙ ap (λ (y : ℕ). y + 1) (mul-mod-left (m * 2 ^ (d - 64)) (2 ^ 64)))
 
 -- ---- bit by bit

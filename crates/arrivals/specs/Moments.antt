@@ -97,6 +97,7 @@ passed-near (y ∷ h) x s v = go (true-or (further (newest (y ∷ h)) x)) (true-
   where
     n : ℕ
     n = newest (y ∷ h)
+
     go : (further n x ≡ true) ⊎ (further n x ≡ false) → (near n x ≡ true) ⊎ (near n x ≡ false) → near (newest (x ∷ y ∷ h)) x ≡ true
     go (inl e) g = ap (λ (u : ℕ). near u x) (newest-further y h x e) ∙ near-self x s
     go (inr e) (inl g) = ap (λ (u : ℕ). near u x) (newest-stays y h x e) ∙ g
@@ -158,6 +159,7 @@ seen-means (y ∷ h) x v = go (true-or (further n x)) (true-or (near n x)) (true
   where
     n : ℕ
     n = newest (y ∷ h)
+
     go : (further n x ≡ true) ⊎ (further n x ≡ false) → (near n x ≡ true) ⊎ (near n x ≡ false) → (marked (y ∷ h) x ≡ true) ⊎ (marked (y ∷ h) x ≡ false) → Passed (y ∷ h) x
     go (inl e) g m = absurd (omega (arith, verdict-further y h x e))
     go (inr e) (inr g) m = absurd (omega (arith, verdict-old y h x e g))
