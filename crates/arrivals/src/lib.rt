@@ -1,6 +1,6 @@
 // Copies of a frame told apart: the record that a receiver keeps, and what it says of a number that arrives.
 ghost use mathlib.Core.Path.{_≡_};
-ghost use Prim.Native.Nat.{_≤_};
+ghost use Prim.Native.Nat.{_*_, _%_, _^_, _≤_, _<_};
 ghost use Rattle.arrivals.specs.Says as specs;
 
 // The newest number, and marks: bit e says whether the number e before the newest was passed. No marks, no frame yet: a fresh record.
@@ -44,12 +44,20 @@ impl Arrival {
     }
 }
 
-// The marks when the newest number moves on by so many: those that fall out of 64 bits are lost, and the new number is marked.
+// The marks so many places further; those that fall out of 64 bits are lost.
+fn shifted(marks: u64, by: u16) -> u64
+    requires { ⌜ (1 ≤ by) × (by < 64) ⌝ }
+    ensures { λ r. ⌜ r ≡ marks * 2 ^ by % 2 ^ 64 ⌝ }
+{
+    marks << by
+}
+
+// The marks when the newest number moves on by so many, itself marked.
 fn moved(marks: u64, by: u16) -> u64
     requires { ⌜ 1 ≤ by ⌝ }
     ensures { λ r. ⌜ r ≡ specs.moved marks by ⌝ }
 {
-    if by < 64 { (marks << by) | 1 } else { 1 }
+    if by < 64 { shifted(marks, by) | 1 } else { 1 }
 }
 
 // The arrival of a number: of 7, 7, 8, 7 at a fresh record the first and the third are passed.
