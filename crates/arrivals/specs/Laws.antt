@@ -5,11 +5,13 @@ use mathlib.Core.Path.{_≡_, refl, sym, ap, _∙_}
 use mathlib.Core.Bool.{Bool, true, false}
 use native.Mathlib.Omega.{arith}
 use lib.Dec.{eqb, leb, ltb}
-use borrow.Author.Tests.{ltb-true, lt-ltb, le-ltb, le-leb, lt-leb, eq-eqb, ne-eqb}
+use borrow.Author.Tests.{ltb-true, leb-true, lt-ltb, le-ltb, le-leb, lt-leb, eq-eqb, ne-eqb}
 use Rattle.scan.specs.Scan.{pick}
+use Rattle.scan.specs.Laws.{true-false}
 use Rattle.bits.specs.Bit.{bit, flip}
 use Rattle.arrivals.specs.Says.{minus, further, near, kept, moved, arrival, numberOf, recordOf}
 use Rattle.arrivals.specs.declared.Record.{Record}
+use Rattle.arrivals.specs.declared.Arrival.{Arrival}
 use Rattle.arrivals.specs.declared.Arrival.the-variants.{Passed, Seen, Old}
 
 -- ---- numbers that wrap
@@ -56,6 +58,22 @@ minus-between n x i p q h g l = omega arith
 pub further-true : (n x : ℕ) → 1 ≤ minus x n → minus x n ≤ 32767 → further n x ≡ true
 unfolding further
 further-true n x p q = simp (le-leb 1 (minus x n) p, le-leb (minus x n) 32767 q)
+
+pub further-some : (n x : ℕ) → further n x ≡ true → 1 ≤ minus x n
+unfolding further
+further-some n x e = leb-true 1 (minus x n) (both (leb 1 (minus x n)) (leb (minus x n) 32767) e)
+  where
+    both : (a b : Bool) → pick a b false ≡ true → a ≡ true
+    both true b e = refl
+    both false b e = e
+
+pub further-most : (n x : ℕ) → further n x ≡ true → minus x n ≤ 32767
+unfolding further
+further-most n x e = leb-true (minus x n) 32767 (both (leb 1 (minus x n)) (leb (minus x n) 32767) e)
+  where
+    both : (a b : Bool) → pick a b false ≡ true → b ≡ true
+    both true b e = e
+    both false b e = absurd (true-false e refl)
 
 -- more than 32,767 ahead: as good as behind
 pub further-far : (n x : ℕ) → 32767 < minus x n → further n x ≡ false
@@ -120,7 +138,13 @@ module _ (r : Record) (x : ℕ) where
     unfolding arrival
     arrival-old p q = simp (ne-eqb (r .marks) 0 some, further-far (r .newest) x (omega arith), near-false (r .newest) x (omega arith))
 
--- ---- refusals
+-- ---- what is told
+
+-- the numbers have two digits at most
+pub number-few : (a : Arrival) → numberOf a < 100
+number-few (Passed r) = omega arith
+number-few (Seen r) = omega arith
+number-few (Old r) = omega arith
 
 -- a refusal leaves the record as it was
 pub refused-leaves : (r : Record) (x : ℕ) → (numberOf (arrival r x) ≡ 0 → ⊥) → recordOf (arrival r x) ≡ r

@@ -6,3 +6,4 @@ pub mod History
 pub mod Moments
 pub mod Follows
 pub mod Worked
+pub mod Whole
