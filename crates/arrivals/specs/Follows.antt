@@ -1,6 +1,6 @@
 -- The record follows the history: after every sequence of arrivals from a fresh record, what becomes of a number is what the rules over the history
--- say (`arrivals-ruled`, of a whole sequence `told-ruled`), and none is passed twice while it stands among the newest 64 (`passed-once`). By induction: the record holds the history's newest number, and the marks of the 64 newest (`Follows`); one arrival
--- keeps that (`step`). Assumes nothing.
+-- say (`arrivals-ruled`, of a whole sequence `told-ruled`), and none is passed twice while it stands among the newest 64 (`passed-once`). By induction:
+-- the record holds the history's newest number, and the marks of the 64 newest (`Follows`); one arrival keeps that (`step`). Assumes nothing.
 use Prim.Native.Nat.{ℕ, zero, suc, _+_, _-_, _≤_, _<_}
 use mathlib.Core.Path.{_≡_, refl, sym, ap, ap₂, _∙_, subst}
 use mathlib.Core.Bool.{Bool, true, false}
@@ -9,7 +9,7 @@ use mathlib.Core.Logic.{_⊎_, inl, inr}
 use native.Mathlib.Omega.{arith}
 use native.Mathlib.Decide.{ℕ-discrete}
 use lib.Dec.{eqb}
-use borrow.Author.Tests.{eq-eqb, ne-eqb}
+use borrow.Author.Tests.{eq-eqb}
 use Rattle.scan.specs.Laws.{true-or, true-false}
 use Rattle.bits.specs.Bit.{bit, flip}
 use Rattle.bits.specs.Laws.{bit-cases, bit-none, bit-pow-same, bit-pow-other, flip-same, flip-other, lt-or-le}
@@ -110,7 +110,8 @@ module _ (y : ℕ) (h : List ℕ) (n m : ℕ) (is : Holds (y ∷ h) n m) (fits :
       older : (i : ℕ) → suc i < 64 → (suc i < minus x n) ⊎ (minus x n ≤ suc i) → eqb (bit (suc i) (moved m (minus x n))) 1 ≡ marked (y ∷ h) (minus x (suc i))
       older i l (inl b) =
           unset (bit (suc i) (moved m (minus x n))) (moved-between m (minus x n) (suc i) (omega arith) b l)
-          ∙ sym (moments.marked-near (y ∷ h) (minus x (suc i)) (ap (λ (u : ℕ). near u (minus x (suc i))) (sym (is .first)) ∙ laws.near-false n (minus x (suc i)) (laws.minus-between n x (suc i) fits small q (omega arith) b)))
+          ∙ sym (moments.marked-near (y ∷ h) (minus x (suc i)) (ap (λ (u : ℕ). near u (minus x (suc i))) (sym (is .first))
+          ∙ laws.near-false n (minus x (suc i)) (laws.minus-between n x (suc i) fits small q (omega arith) b)))
       older i l (inr b) =
           let k = suc i - minus x n in
           let e : suc i ≡ minus x n + k = omega arith in

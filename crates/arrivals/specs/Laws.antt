@@ -1,10 +1,10 @@
 -- The rules case by case (`arrival-first`, `arrival-seen`, `arrival-marked`, `arrival-further`, `arrival-old`), the wrapping difference
 -- (`minus-is`), and that a refusal leaves the record as it was (`refused-leaves`). Assumes nothing.
 use Prim.Native.Nat.{ℕ, zero, suc, _+_, _-_, _%_, _≤_, _<_}
-use mathlib.Core.Path.{_≡_, refl, sym, ap, _∙_}
+use mathlib.Core.Path.{_≡_, refl, sym}
 use mathlib.Core.Bool.{Bool, true, false}
 use native.Mathlib.Omega.{arith}
-use lib.Dec.{eqb, leb, ltb}
+use lib.Dec.{eqb, leb}
 use borrow.Author.Tests.{ltb-true, leb-true, lt-ltb, le-ltb, le-leb, lt-leb, eq-eqb, ne-eqb}
 use Rattle.scan.specs.Scan.{pick}
 use Rattle.scan.specs.Laws.{true-false}

@@ -1,7 +1,7 @@
 -- The marks bit by bit: what a move of the newest number makes of them (`moved-newest`, `moved-between`, `moved-older`), and that a shift of the word computes it
 -- (`moved-shift`, `moved-far`). Assumes nothing.
 use Prim.Native.Nat.{ℕ, zero, suc, _+_, _-_, _*_, _/_, _%_, _^_, _≤_, _<_}
-use mathlib.Core.Path.{_≡_, refl, sym, ap, ap₂, _∙_}
+use mathlib.Core.Path.{_≡_, sym, ap, ap₂, _∙_}
 use native.Mathlib.Nat.{mul-mod-left, mul-assoc, mul-one, zero-add, suc-add}
 use native.Mathlib.Omega.{arith}
 use lib.Pow.{pow-add, mod-mod-pow, field}

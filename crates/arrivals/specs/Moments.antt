@@ -1,17 +1,16 @@
 -- A history one number longer: its newest number, its marks and its verdict, case by case; and that a number that was passed and has stood
 -- among the newest 64 ever since is not passed again (`never-twice`). Assumes nothing.
-use Prim.Native.Nat.{ℕ, zero, suc, _+_, _-_, _%_, _≤_, _<_}
+use Prim.Native.Nat.{ℕ, _<_}
 use mathlib.Core.Path.{_≡_, refl, sym, ap, _∙_}
 use mathlib.Core.Bool.{Bool, true, false}
 use mathlib.Core.List.{List, [], _∷_, _++_}
-use mathlib.Core.Logic.{_⊎_, inl, inr, ⊎-elim}
+use mathlib.Core.Logic.{_⊎_, inl, inr}
 use native.Mathlib.Omega.{arith}
 use native.Mathlib.Decide.{ℕ-discrete}
-use lib.Dec.{eqb}
 use borrow.Author.Tests.{eq-eqb, ne-eqb}
 use Rattle.scan.specs.Scan.{pick}
 use Rattle.scan.specs.Laws.{true-or, true-false}
-use Rattle.arrivals.specs.Says.{minus, further, near}
+use Rattle.arrivals.specs.Says.{further, near}
 use Rattle.arrivals.specs.Laws.{near-below, near-self, near-further}
 use Rattle.arrivals.specs.History.{newest, ruled, marked, verdict, Sixteen, Stays}
 

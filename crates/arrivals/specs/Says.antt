@@ -1,5 +1,5 @@
--- What becomes of a number that arrives at a record, by the specification's rules (`arrival`), at every record: also at those that no history makes. Two arrivals that the promise allows are the same (`arrival-unique`).
--- Assumes nothing.
+-- What becomes of a number that arrives at a record, by the specification's rules (`arrival`): at every record, also at those that no history makes.
+-- The promise leaves one arrival (`arrival-unique`). Assumes nothing.
 use Prim.Native.Nat.{ℕ, _+_, _-_, _*_, _%_, _^_}
 use mathlib.Core.Path.{_≡_, sym, _∙_}
 use mathlib.Core.Bool.{Bool, false}

@@ -1,9 +1,9 @@
 -- The same with numbers that do not wrap: every arrival stands for a whole number (`whole`), of which its frame carries the lowest 16 bits. No whole number is
 -- passed twice, however long the sequence (`whole-once`, at the record `frames-once`), and none is refused as seen for another's sake (`seen-whole`).
 -- Assumes nothing.
-use Prim.Native.Nat.{ℕ, zero, suc, _+_, _-_, _%_, _≤_, _<_}
-use mathlib.Core.Path.{_≡_, refl, sym, ap, _∙_, subst}
-use mathlib.Core.Bool.{Bool, true, false}
+use Prim.Native.Nat.{ℕ, _+_, _-_, _%_, _≤_, _<_}
+use mathlib.Core.Path.{_≡_, sym, ap, _∙_, subst}
+use mathlib.Core.Bool.{true, false}
 use mathlib.Core.List.{List, [], _∷_, _++_}
 use mathlib.Core.Logic.{_⊎_, inl, inr}
 use native.Mathlib.Omega.{arith}
@@ -135,7 +135,8 @@ passed-where (y ∷ h) x v = go (true-or (further n x)) (true-or (near n x))
 -- ---- never twice
 
 -- while the newest is less than 64 above it, x stands among the newest 64
-stands : (x w : ℕ) (before since : List ℕ) → w % 65536 ≡ x → w ≤ top (x ∷ before) → top (since ++ (x ∷ before)) < w + 64 → Sixteen (since ++ (x ∷ before)) → Stays x before since
+stands : (x w : ℕ) (before since : List ℕ) → w % 65536 ≡ x → w ≤ top (x ∷ before) → top (since ++ (x ∷ before)) < w + 64
+    → Sixteen (since ++ (x ∷ before)) → Stays x before since
 stands x w before [] e p q s = tt
 stands x w before (y ∷ since) e p q s =
     let l = since ++ (x ∷ before) in (

@@ -1,7 +1,6 @@
 -- Worked cases, by the rules over the history: wraps, gaps, and the numbers at either side of each bound. Assumes nothing.
-use Prim.Native.Nat.{ℕ}
 use mathlib.Core.Path.{_≡_, refl}
-use mathlib.Core.List.{List, [], _∷_}
+use mathlib.Core.List.{[], _∷_}
 use Rattle.arrivals.specs.Says.{minus, further, near}
 use Rattle.arrivals.specs.History.{newest, ruled, marked, verdict}
 use Rattle.arrivals.specs.Follows.{verdicts}
