@@ -1,10 +1,12 @@
 // The library for programs in C and C++: every routine as an exported function over numbers and slices. include/gustparsley.h declares them.
 mod calls;
+mod frames;
 mod plan;
 mod routines;
 
 pub use calls::gust_next_hop;
 pub use calls::gust_plan;
+pub use frames::gust_arrive;
 pub use routines::gust_distance;
 pub use routines::gust_facts;
 pub use routines::gust_judge;
