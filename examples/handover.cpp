@@ -1,5 +1,5 @@
 // A handover: in the two-level mesh of order 2, relay 0 hands a region over to relay 63 by every link it has. Relays stop on the way; it prints which copies
-// arrive. Built and compared by tests/host.test; by hand
+// arrive, and that of each frame one goes on. Built and compared by tests/host.test; by hand
 //     ./build && c++ -std=c++17 -Iinclude examples/handover.cpp target/staticlib/libhost.a -o handover && ./handover
 #include "gustparsley.h"
 
@@ -23,6 +23,15 @@ int main() {
     for (size_t p = 0; p <= counts[i]; ++p) std::printf(" %llu", (unsigned long long)places[i * width + p]);
     std::printf("\n");
   }
+
+  // Before any relay stops, a frame comes once for each path: the first copy goes on, the others are dropped. Numbers have 16 bits, and wrap.
+  GustRecord record = {};
+  for (uint16_t frame : {65534, 65535, 0})
+    for (size_t copy = 0; copy < paths; ++copy) {
+      const GustArrival arrival = gust_arrive(record, frame);
+      record = {arrival.newest, arrival.marks};
+      if (arrival.number == GUST_FINE) std::printf("frame %u goes on by copy %zu\n", frame, copy);
+    }
 
   // Two relays stop, each on a path of its own: fewer than there are paths, and neither is an end, so that a copy arrives whichever they are.
   const std::vector<uint64_t> stopped = {places[1], places[width + 1]};

@@ -1,4 +1,4 @@
-/* Gustparsley for C and C++: fans and bundles of paths over a mesh of relays, next hops, routes, distances, the judge, survivors and sheets.
+/* Gustparsley for C and C++: fans and bundles of paths over a mesh of relays, next hops, routes, distances, the judge, survivors and sheets; frames that come in copies.
  *
  * Link with target/staticlib/libhost.a, which ./build makes. Every function here is proved to return and to leave in the slices what its
  * comment says. None allocates or keeps anything between calls, so they may be called from several threads at once.
@@ -18,7 +18,8 @@
  * two-level mesh the slot's bits, then the block's.
  *
  * Refusals. Every call tells a number, 0 where all is well, and with some numbers a place or a path. No call that tells a number other than 0 changes
- * any slice, and then every other value it returns is 0. Where several numbers apply, the first in the order given with each function is told. */
+ * any slice, and then every other value it returns is 0, but for the record that gust_arrive gives back as it was. Where several numbers apply, the first
+ * in the order given with each function is told. */
 #ifndef GUSTPARSLEY_H
 #define GUSTPARSLEY_H
 
@@ -65,7 +66,10 @@ enum {
   GUST_PATHS = 33,           /* no path, or more than a relay has links */
   GUST_HOPS = 34,            /* a path with no hops, or more than the longest has; its path */
   GUST_NOT_A_FAN = 35,       /* the request or the paths fail the judge */
-  GUST_LEFT_OVER = 36        /* bytes are left over */
+  GUST_LEFT_OVER = 36,       /* bytes are left over */
+  /* Frames that arrive: */
+  GUST_FRAME_SEEN = 41,      /* a frame of this number was passed before */
+  GUST_FRAME_OLD = 42        /* the number is neither ahead of the newest nor among the newest 64 */
 };
 
 /* ---- the region host's two calls. Each returns number * 256 + place, so 0 for success. (Every place told here is below 256.) */
@@ -157,6 +161,26 @@ GustAnswer gust_write_sheet(uint64_t kind, uint64_t size, uint64_t source, const
  * k targets; path by path 30 (its two bytes of hops are missing), 34, 30 (its relays run out); 36; 35. */
 GustReading gust_read_sheet(const uint8_t *bytes, size_t bytes_len, uint64_t *places, size_t places_len, uint64_t *counts, size_t counts_len,
                             uint64_t *targets, size_t targets_len);
+
+/* ---- frames that come in several copies */
+
+/* What a receiver keeps: the newest number, and in bit e of `marks` whether the number e before the newest was passed. All zero is a fresh record; so is any
+ * whose marks are 0. */
+typedef struct GustRecord {
+  uint16_t newest;
+  uint64_t marks;
+} GustRecord;
+
+/* What becomes of a frame, and the two numbers of the record to keep. */
+typedef struct GustArrival {
+  uint16_t number, newest;
+  uint64_t marks;
+} GustArrival;
+
+/* The arrival of a frame, which carries a number of 16 bits that wraps. Number 0: the frame is passed. It is where the record is fresh; where its number is 1 to
+ * 32,767 ahead of the newest, and then it becomes the newest; and where it is among the 64 newest, the newest included, and unmarked. The record to keep comes
+ * back, which is the one given where the frame is refused. Numbers: 41 for one of the 64 newest that is marked, 42 for any other. */
+GustArrival gust_arrive(GustRecord record, uint16_t number);
 
 #ifdef __cplusplus
 }

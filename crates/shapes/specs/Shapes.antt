@@ -11,10 +11,14 @@ use Rattle.mesh.specs.Says.{factTold}
 use Rattle.judge.specs.Says.{Ruling, numberOf, pathOf, placeOf}
 use Rattle.survivors.specs.Tally.{Tallied, rulingOf, wholeOf}
 use Rattle.sheet.specs.Says.{WriteTold, writtenNumber, writtenBytes, ReadTold, readNumber, readPath, readKind, readSize, readSource, readCount}
+use Rattle.arrivals.specs.Says as frames
+use Rattle.arrivals.specs.declared.Record.{Record}
+use Rattle.arrivals.specs.declared.Arrival.{Arrival}
 use Rattle.shapes.specs.declared.GustAnswer.{GustAnswer}
 use Rattle.shapes.specs.declared.GustFacts.{GustFacts}
 use Rattle.shapes.specs.declared.GustVerdict.{GustVerdict}
 use Rattle.shapes.specs.declared.GustReading.{GustReading}
+use Rattle.shapes.specs.declared.GustArrival.{GustArrival}
 
 -- ---- the structs
 
@@ -57,6 +61,9 @@ readingIn t = record {
   paths = readCount t;
 }
 
+abbrev pub arrivalIn : Arrival → GustArrival
+arrivalIn a = record { number = frames.numberOf a; newest = frames.recordOf a .newest; marks = frames.recordOf a .marks }
+
 -- ---- structs put together
 
 -- number, path, place and value
@@ -89,3 +96,7 @@ facts n p relays links longest places = record { number = n; path = 0; place = p
 
 pub facts-same : {n p r l g w n₁ p₁ r₁ l₁ g₁ w₁ : ℕ} → n ≡ n₁ → p ≡ p₁ → r ≡ r₁ → l ≡ l₁ → g ≡ g₁ → w ≡ w₁ → facts n p r l g w ≡ facts n₁ p₁ r₁ l₁ g₁ w₁
 facts-same a b c d e f = six facts a b c d e f
+
+pub arrival-same : {n n₁ : ℕ} {r r₁ : Record} → n ≡ n₁ → r ≡ r₁
+    → _≡_ {A = GustArrival} (record { number = n; newest = r .newest; marks = r .marks }) (record { number = n₁; newest = r₁ .newest; marks = r₁ .marks })
+arrival-same a b = ap₂ (λ (x : ℕ) (y : Record). record { number = x; newest = y .newest; marks = y .marks }) a b

@@ -10,6 +10,7 @@ ghost use Rattle.shapes.specs.Shapes as specs;
 use answers::Answer;
 use answers::Checked;
 use answers::YesNo;
+use arrivals::Arrival;
 use judge::Verdict;
 use mesh::Mesh;
 use sheet::Reading;
@@ -55,6 +56,14 @@ pub struct GustReading {
     pub size: u64,
     pub source: u64,
     pub paths: u64,
+}
+
+// What becomes of a number that arrives, and the record to keep: 16 bytes, so that they come back in registers.
+#[repr(C)]
+pub struct GustArrival {
+    pub number: u16,
+    pub newest: u16,
+    pub marks: u64,
 }
 
 // 1 for yes, 0 for no.
@@ -165,5 +174,17 @@ pub fn of_reading(read: Reading) -> GustReading
         size: mesh.size,
         source: read.source(),
         paths: read.paths() as u64,
+    }
+}
+
+pub fn of_arrival(a: Arrival) -> GustArrival
+    ensures { λ r. ⌜ r ≡ specs.arrivalIn a ⌝ }
+{
+    let number = a.number() as u16;
+    let kept = a.record();
+    GustArrival {
+        number: number,
+        newest: kept.newest,
+        marks: kept.marks,
     }
 }
