@@ -1,5 +1,6 @@
 -- What the crate's contracts cite, and its laws.
 pub mod Next
+pub mod Crossing
 pub mod Steps
 pub mod Says
 pub mod Needs
