@@ -38,7 +38,7 @@ module _ (m x : ℕ) (ne : x ≢ 0) (h : x < blocks m) where
   unfolding crossing
   place-gray = refl
 
-  place-before : (k : ℕ) → k < place m x → bit (gray k) x ≡ 0
+  pub place-before : (k : ℕ) → k < place m x → bit (gray k) x ≡ 0
   unfolding differing
   place-before k l = bit-off (gray k) x (place-first .before k (omega arith) l)
 

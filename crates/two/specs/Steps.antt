@@ -1,11 +1,11 @@
 -- One hop of the plain route, and the route. A hop changes one slot bit towards the heading, or crosses (`step`); so it is a link
 -- (`next-linked`) and stays in the mesh (`next-below`). Each hop brings the rank down (`next-less`), so every walk arrives, after at most
 -- 2 ^ (m + 1) + 2 * m - 1 hops (`walk-arrives`, `hops-bound`). Of `crossing` only what Crossing.antt says is used. Assumes nothing.
-use Prim.Native.Nat.{ℕ, suc, _+_, _-_, _*_, _^_, _≤_, _<_}
+use Prim.Native.Nat.{ℕ, zero, suc, _+_, _-_, _*_, _^_, _≤_, _<_}
 use mathlib.Core.Path.{_≡_, refl, sym, ap, ap₂, _∙_, subst}
 use mathlib.Core.Bool.{Bool, true, false}
 use mathlib.Core.Logic.{_⊎_, inl, inr, _≢_}
-use native.Mathlib.Nat.{pow-suc}
+use native.Mathlib.Nat.{pow-suc, suc-mul}
 use native.Mathlib.Numerals.{add-one}
 use native.Mathlib.Omega.{arith}
 use native.Mathlib.Decide.{ℕ-discrete}
@@ -20,7 +20,7 @@ use Rattle.scan.specs.Scan.{pick}
 use Rattle.paths.specs.Mesh.{width}
 use Rattle.paths.specs.Walk.{node, Arrives}
 use Rattle.paths.specs.Walks.{hops-is}
-use Rattle.two_parts.specs.Two.{slots, blocks, relays, blockOf, slotOf, relay, linked, two}
+use Rattle.two_parts.specs.Two.{slots, blocks, relays, longest, blockOf, slotOf, relay, linked, two}
 use Rattle.two.specs.Next.{place, crossing, toward, heading, crossed, nextBlock, nextSlot, next, hops}
 use Rattle.two.specs.Next as def
 use Rattle.two.specs.Crossing.{place-below, place-later, crossing-below, crossing-bit, crossing-flip-lt, crossing-near}
@@ -135,6 +135,9 @@ rest-some : (m x : ℕ) → x ≢ 0 → rest m x ≡ ones x + (2 ^ m - suc (plac
 unfolding rest
 rest-some m x ne = ap (λ (y : Bool). pick y 0 (ones x + (2 ^ m - suc (place m x)) + m)) (ne-eqb x 0 ne)
 
+pow-next : (m : ℕ) → 2 ^ (m + 1) ≡ 2 ^ m + 2 ^ m
+pow-next m = ap (λ (j : ℕ). 2 ^ j) (add-one m) ∙ pow-suc 2 m ∙ omega arith
+
 rest-bound : (m x : ℕ) → x < blocks m → rest m x ≤ 2 ^ m + (2 ^ m - 1) + m
 rest-bound m x h = go (ℕ-discrete x 0)
   where
@@ -149,9 +152,6 @@ module _ (m b p c q : ℕ) (hb : b < blocks m) (hp : p < slots m) (hc : c < bloc
   pub rank-bound : rank m b p c q ≤ 2 ^ (m + 1) + 2 * m - 1
   unfolding rank
   rank-bound = omega (arith, slot-far, rest-bound m (bitXor b c) (xor-lt (2 ^ m) b c hb hc), pow-next m, pow-pos m)
-    where
-      pow-next : (k : ℕ) → 2 ^ (k + 1) ≡ 2 ^ k + 2 ^ k
-      pow-next k = ap (λ (j : ℕ). 2 ^ j) (add-one k) ∙ pow-suc 2 k ∙ omega arith
 
 -- along a slot bit
 rank-slot : (m b p c q d : ℕ) → bit d (bitXor p (heading m b c q)) ≡ 1 → rank m b (flip p d) c q < rank m b p c q
@@ -163,8 +163,15 @@ rank-slot m b p c q d o =
 rest-less : (m x : ℕ) → x ≢ 0 → x < blocks m → flip x (crossing m x) ≢ 0
     → ones (bitXor (crossing m x) (crossing m (flip x (crossing m x)))) + rest m (flip x (crossing m x)) < rest m x
 rest-less m x ne h left =
-    omega (arith, rest-some m x ne, rest-some m (flip x (crossing m x)) left, crossing-near m x ne h left, place-later m x ne h left,
-    place-below m (flip x (crossing m x)) left (crossing-flip-lt m x ne h), ones-clear (crossing m x) x (crossing-bit m x ne h))
+    omega (
+      arith,
+      rest-some m x ne,
+      rest-some m (flip x (crossing m x)) left,
+      crossing-near m x ne h left,
+      place-later m x ne h left,
+      place-below m (flip x (crossing m x)) left (crossing-flip-lt m x ne h),
+      ones-clear (crossing m x) x (crossing-bit m x ne h),
+    )
 
 -- across
 rank-cross : (m b p c q : ℕ) → b < blocks m → p < slots m → c < blocks m → q < slots m → b ≢ c → p ≡ crossing m (bitXor b c)
@@ -183,8 +190,13 @@ rank-cross m b p c q hb hp hc hq ne e = go (ℕ-discrete (flip b p) c)
 
     go : Dec (flip b p ≡ c) → ones (bitXor p (heading m (flip b p) c q)) + rest m (bitXor (flip b p) c) < ones (bitXor p (heading m b c q)) + rest m (bitXor b c)
     go (yes z) =
-        omega (arith, slot-far m (flip b p) p c q (flip-lt (2 ^ m) b p hb hp) hp hc hq, rest-none m (bitXor (flip b p) c) (ap (λ (v : ℕ). bitXor v c) z ∙ xor-self c),
-        rest-some m (bitXor b c) some, ones-clear (crossing m (bitXor b c)) (bitXor b c) (crossing-bit m (bitXor b c) some low))
+        omega (
+          arith,
+          slot-far m (flip b p) p c q (flip-lt (2 ^ m) b p hb hp) hp hc hq,
+          rest-none m (bitXor (flip b p) c) (ap (λ (v : ℕ). bitXor v c) z ∙ xor-self c),
+          rest-some m (bitXor b c) some,
+          ones-clear (crossing m (bitXor b c)) (bitXor b c) (crossing-bit m (bitXor b c) some low),
+        )
     go (no far) =
         let left : flip (bitXor b c) (crossing m (bitXor b c)) ≢ 0 = λ z. far (xor-zero-eq (flip b p) c (after ∙ z)) in
         let walk : ones (bitXor p (heading m (flip b p) c q)) ≡ ones (bitXor (crossing m (bitXor b c)) (crossing m (flip (bitXor b c) (crossing m (bitXor b c))))) =
@@ -201,6 +213,11 @@ rank-less m b p c q hb hp hc hq far = go (step m b p c q hb hp hc hq)
     go (inr (inr (ne, e, x, y))) = rw (x, y) (rank-cross m b p c q hb hp hc hq ne e)
 
 -- ---- of relays by number
+
+-- no path's limit is less
+pub most-longest : (m : ℕ) → 2 ^ (m + 1) + 2 * m - 1 ≤ longest m
+most-longest zero = omega arith
+most-longest (suc n) = omega (arith, pow-next (suc n), suc-mul n (2 ^ suc n))
 
 module _ (m t : ℕ) (ht : t < relays m) where
   abbrev c : ℕ
@@ -264,11 +281,11 @@ module _ (m t : ℕ) (ht : t < relays m) where
   unfolding hops
   hops-arrive s h =
       let (k, l, a) = walk-arrives s h in
-      subst (λ (n : ℕ). Arrives (next m) s t n) (sym (hops-is (next m) s t (width (two m)) k (omega arith) a)) a
+      subst (λ (n : ℕ). Arrives (next m) s t n) (sym (hops-is (next m) s t (width (two m)) k (omega (arith, most-longest m)) a)) a
 
   pub hops-bound : (s : ℕ) → s < relays m → hops m s t ≤ 2 ^ (m + 1) + 2 * m - 1
   unfolding hops
-  hops-bound s h = let (k, l, a) = walk-arrives s h in subst (λ (n : ℕ). n ≤ 2 ^ (m + 1) + 2 * m - 1) (sym (hops-is (next m) s t (width (two m)) k (omega arith) a)) l
+  hops-bound s h = let (k, l, a) = walk-arrives s h in subst (λ (n : ℕ). n ≤ 2 ^ (m + 1) + 2 * m - 1) (sym (hops-is (next m) s t (width (two m)) k (omega (arith, most-longest m)) a)) l
 
   -- the hops of the route are links
   pub route-linked : (s k : ℕ) → s < relays m → k < hops m s t → linked m (node (next m) s t k) (node (next m) s t (suc k)) ≡ true

@@ -4,6 +4,7 @@ ghost use Prim.Native.Nat.{_<_};
 ghost use Rattle.answers.specs.Told.{answerTold};
 ghost use Rattle.two_parts.specs.Two as specs;
 ghost use Rattle.two.specs.Next as next;
+ghost use Rattle.two.specs.Ordered as order;
 ghost use Rattle.two.specs.Says.{nextTold};
 ghost use Rattle.two.specs.Needs.{Apart, Slots, Between, Pair};
 ghost use Rattle.two_parts.specs.Needs.{Fine};
@@ -14,12 +15,23 @@ use two_parts::Block;
 use two_parts::Order;
 use two_parts::Slot;
 
+// The bits of x, of 32, brought into the Gray order: bit i of what comes out is the one that stands at place i of the order. The order is i xor (i div 2), so
+// that each step adds one bit of a place to the one below it, the highest first: a swap of the halves in which that bit is set.
+fn ordered(x: u64) -> u64
+    ensures { λ r. ⌜ r ≡ order.ordered x ⌝ }
+{
+    let by_three = bits::swap(x, 0x00ff0000, 8);
+    let by_two = bits::swap(by_three, 0x0f000f00, 4);
+    let by_one = bits::swap(by_two, 0x30303030, 2);
+    bits::swap(by_one, 0x44444444, 1)
+}
+
 // Of the bits in which two blocks differ, the one to correct first: the slot at which to cross. The order of block bits is here alone.
 fn crossing(order: Order, x: u64) -> Slot
     requires { ⌜ Apart (order .0) x ⌝ }
     ensures { λ r. ⌜ r .0 ≡ next.crossing (order .0) x ⌝ }
 {
-    Slot(bits::lowest(x) as u64)
+    Slot(bits::gray(bits::lowest(ordered(x)) as u64))
 }
 
 // The slot after p on the way to q in one block: the lowest bit that differs is corrected.
