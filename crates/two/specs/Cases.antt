@@ -29,9 +29,12 @@ CaseD = (hops 2 0 23 ≡ 4) × (route 2 0 23 ≡ 0 ∷ 4 ∷ 6 ∷ 22 ∷ 23 ∷
 abbrev pub CaseE : Type 0
 CaseE = (hops 2 23 0 ≡ 6) × (route 2 23 0 ≡ 23 ∷ 22 ∷ 20 ∷ 16 ∷ 18 ∷ 2 ∷ 0 ∷ [])
 
--- for each order a pair whose route has as many hops as any may have (`hops-bound`)
-abbrev pub Met : (m s t : ℕ) → Type 0
-Met m s t = hops m s t ≡ 2 ^ (m + 1) + 2 * m - 1
+-- for each order, a pair whose route has as many hops as any may have (`hops-bound`)
+abbrev pub Meets : (m s t : ℕ) → Type 0
+Meets m s t = hops m s t ≡ 2 ^ (m + 1) + 2 * m - 1
+
+abbrev pub BoundMet : Type 0
+BoundMet = Meets 1 1 6 × Meets 2 3 61 × Meets 3 7 2043 × Meets 4 15 1048567 × Meets 5 31 137438953455
 
 pub case-a : CaseA
 unfolding those linked joined ones onesIn
@@ -49,14 +52,6 @@ pub case-e : CaseE
 unfolding route hops walk.hops walk.route walk.node seek next step nextBlock nextSlot crossed heading toward crossing place differing gray bit flip trailingZeros
 case-e = (refl, refl)
 
-pub met-1 : Met 1 1 6
-unfolding route hops walk.hops walk.route walk.node seek next step nextBlock nextSlot crossed heading toward crossing place differing gray bit flip trailingZeros
-met-1 = refl
-
-pub met-2 : Met 2 3 61
-unfolding route hops walk.hops walk.route walk.node seek next step nextBlock nextSlot crossed heading toward crossing place differing gray bit flip trailingZeros
-met-2 = refl
-
-pub met-3 : Met 3 7 2043
-unfolding route hops walk.hops walk.route walk.node seek next step nextBlock nextSlot crossed heading toward crossing place differing gray bit flip trailingZeros
-met-3 = refl
+pub bound-met : BoundMet
+unfolding hops walk.hops walk.node seek next step nextBlock nextSlot crossed heading toward crossing place differing gray bit flip trailingZeros
+bound-met = (refl, refl, refl, refl, refl)
