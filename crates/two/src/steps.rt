@@ -15,15 +15,15 @@ use two_parts::Block;
 use two_parts::Order;
 use two_parts::Slot;
 
-// The bits of x, of 32, brought into the Gray order: bit i of what comes out is the one that stands at place i of the order. The order is i xor (i div 2), so
-// that each step adds one bit of a place to the one below it, the highest first: a swap of the halves in which that bit is set.
+// The 32 low bits of x in the Gray order: bit i of what comes out is bit i xor (i div 2) of x. That place is i with bit 1 added to bit 0, then 2 to 1, 3 to 2 and
+// 4 to 3: each is a swap of the places that have the upper of the two bits, the last one first. `ordered(8)` is 4.
 fn ordered(x: u64) -> u64
     ensures { λ r. ⌜ r ≡ order.ordered x ⌝ }
 {
-    let by_three = bits::swap(x, 0x00ff0000, 8);
-    let by_two = bits::swap(by_three, 0x0f000f00, 4);
-    let by_one = bits::swap(by_two, 0x30303030, 2);
-    bits::swap(by_one, 0x44444444, 1)
+    let by_four = bits::swap(x, 0x00ff0000, 8);
+    let by_three = bits::swap(by_four, 0x0f000f00, 4);
+    let by_two = bits::swap(by_three, 0x30303030, 2);
+    bits::swap(by_two, 0x44444444, 1)
 }
 
 // Of the bits in which two blocks differ, the one to correct first: the slot at which to cross. The order of block bits is here alone.
