@@ -14,7 +14,7 @@ use lib.Pow.{pow-pos}
 use lib.Count.{ones, ones-le, trailingZeros}
 use lib.Dec.{eqb}
 use borrow.Author.Tests.{eq-eqb, ne-eqb}
-use Rattle.bits.specs.Bit.{bit, flip, Lowest}
+use Rattle.bits.specs.Bit.{bit, flip}
 use Rattle.bits.specs.Laws.{trailing-lowest, xor-zero-eq, flip-lt, flip-xor, ones-clear}
 use Rattle.scan.specs.Scan.{pick}
 use Rattle.paths.specs.Mesh.{width}
@@ -24,7 +24,6 @@ use Rattle.two_parts.specs.Two.{slots, blocks, relays, longest, blockOf, slotOf
 use Rattle.two.specs.Next.{place, crossing, toward, heading, crossed, nextBlock, nextSlot, next, hops}
 use Rattle.two.specs.Next as def
 use Rattle.two.specs.Crossing.{place-below, place-later, crossing-below, crossing-bit, crossing-flip-lt, crossing-near}
-use Rattle.two_parts.specs.Digits.{lowest-alike}
 use Rattle.two_parts.specs.Parts.{block-relay, slot-relay, relay-parts, relay-below, block-below, slot-below, same-parts}
 use Rattle.two_parts.specs.Links.{Link, link-linked, link-within}
 use Rattle.paths.specs.Ends.{walk-ends, node-keeps}
@@ -59,15 +58,9 @@ pub toward-there : (m p q : ℕ) → p ≡ q → toward m p q ≡ p
 unfolding toward
 toward-there m p q e = ap (λ (x : Bool). pick x p (flip p (trailingZeros m (bitXor p q)))) (eq-eqb p q e)
 
-toward-moves : (m p q : ℕ) → p ≢ q → toward m p q ≡ flip p (trailingZeros m (bitXor p q))
+pub toward-moves : (m p q : ℕ) → p ≢ q → toward m p q ≡ flip p (trailingZeros m (bitXor p q))
 unfolding toward
 toward-moves m p q ne = ap (λ (x : Bool). pick x p (flip p (trailingZeros m (bitXor p q)))) (ne-eqb p q ne)
-
--- as a word of 64 bits has them
-pub toward-lowest : (m p q i : ℕ) → p < slots m → q < slots m → p ≢ q → Lowest 64 (bitXor p q) i → toward m p q ≡ flip p i
-toward-lowest m p q i hp hq ne l =
-    toward-moves m p q ne
-    ∙ ap (flip p) (lowest-alike m 64 (bitXor p q) (trailingZeros m (bitXor p q)) i (trailing-lowest m (bitXor p q) (λ z. ne (xor-zero-eq p q z)) (xor-lt m p q hp hq)) l)
 
 -- ---- one hop, by blocks and slots
 

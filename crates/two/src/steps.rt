@@ -1,12 +1,12 @@
 // The next hop.
 ghost use mathlib.Core.Path.{_≡_};
-ghost use Prim.Native.Nat.{_<_};
 ghost use Rattle.answers.specs.Told.{answerTold};
 ghost use Rattle.two_parts.specs.Two as specs;
 ghost use Rattle.two.specs.Next as next;
 ghost use Rattle.two.specs.Ordered as order;
+ghost use Rattle.two.specs.Turns as turns;
 ghost use Rattle.two.specs.Says.{nextTold};
-ghost use Rattle.two.specs.Needs.{Apart, Slots, Between, Pair};
+ghost use Rattle.two.specs.Needs.{Apart, Differ, Slots};
 ghost use Rattle.two_parts.specs.Needs.{Fine};
 use crate::parts;
 use answers::Answer;
@@ -34,49 +34,38 @@ fn crossing(order: Order, x: u64) -> Slot
     Slot(bits::gray(bits::lowest(ordered(x)) as u64))
 }
 
-// The slot after p on the way to q in one block: the lowest bit that differs is corrected.
-fn toward(order: Order, p: Slot, q: Slot) -> Slot
-    requires { ⌜ Slots (order .0) (p .0) (q .0) ⌝ }
-    ensures { λ r. ⌜ r .0 ≡ next.toward (order .0) (p .0) (q .0) ⌝ }
+// The slot to walk to, where the blocks differ in the bits of `apart` and the target's slot is q.
+fn heading(order: Order, apart: Block, q: Slot) -> Slot
+    requires { ⌜ Differ (order .0) (apart .0) ⌝ }
+    ensures { λ r. ⌜ r .0 ≡ turns.aim (order .0) (apart .0) (q .0) ⌝ }
 {
-    if p.0 == q.0 {
-        return p;
-    }
-    Slot(bits::flip(p.0, bits::lowest(p.0 ^ q.0)))
-}
-
-// The slot to walk to, from block b towards block c, slot q.
-fn heading(order: Order, b: Block, c: Block, q: Slot) -> Slot
-    requires { ⌜ Between (order .0) (b .0) (c .0) ⌝ }
-    ensures { λ r. ⌜ r .0 ≡ next.heading (order .0) (b .0) (c .0) (q .0) ⌝ }
-{
-    if b.0 == c.0 {
+    if apart.0 == 0 {
         return q;
     }
-    crossing(order, b.0 ^ c.0)
+    crossing(order, apart.0)
 }
 
-// The block after block b, slot p on the way to block c, where the slot walks to h.
-fn crossed(b: Block, p: Slot, c: Block, h: Slot) -> Block
-    requires { ⌜ p .0 < 32 ⌝ }
-    ensures { λ r. ⌜ r .0 ≡ next.crossed (b .0) (p .0) (c .0) (h .0) ⌝ }
+// The bit of a relay's number that changes where its slot p is the one to walk to: the block's bit p, as a number; 0 where the blocks agree.
+fn across(order: Order, apart: Block, p: Slot) -> u64
+    requires { ⌜ Slots (order .0) (p .0) (p .0) ⌝ }
+    ensures { λ r. ⌜ r ≡ turns.across (order .0) (apart .0) (p .0) ⌝ }
 {
-    if b.0 == c.0 {
-        return b;
+    if apart.0 == 0 {
+        return 0;
     }
+    bits::power((order.0 + p.0) as u32)
+}
+
+// Relay u with the bit changed that leads from its slot p towards slot h: the lowest that differs, or the one across.
+fn turned(order: Order, u: u64, apart: Block, p: Slot, h: Slot) -> u64
+    requires { ⌜ Slots (order .0) (p .0) (h .0) ⌝ }
+    ensures { λ r. ⌜ r ≡ turns.turned (order .0) u (apart .0) (p .0) (h .0) ⌝ }
+{
+    let over = across(order, apart, p);
     if p.0 == h.0 {
-        return Block(bits::flip(b.0, p.0 as u32));
+        return u ^ over;
     }
-    b
-}
-
-// The number of the relay after block b, slot p on the way to block c, slot q.
-pub fn step(order: Order, b: Block, p: Slot, c: Block, q: Slot) -> u64
-    requires { ⌜ Pair (order .0) (b .0) (p .0) (c .0) (q .0) ⌝ }
-    ensures { λ r. ⌜ r ≡ next.step (order .0) (b .0) (p .0) (c .0) (q .0) ⌝ }
-{
-    let h = heading(order, b, c, q);
-    two_parts::relay_of(order, crossed(b, p, c, h), toward(order, p, h))
+    bits::flip(u, bits::lowest(p.0 ^ h.0))
 }
 
 // The relay after u on the way to t.
@@ -84,13 +73,10 @@ pub fn hop(order: Order, u: u64, t: u64) -> u64
     requires { ⌜ Fine (order .0) u t ⌝ }
     ensures { λ r. ⌜ r ≡ next.next (order .0) u t ⌝ }
 {
-    step(
-        order,
-        two_parts::block_of(order, u),
-        two_parts::slot_of(order, u),
-        two_parts::block_of(order, t),
-        two_parts::slot_of(order, t),
-    )
+    let apart = two_parts::block_of(order, u ^ t);
+    let p = two_parts::slot_of(order, u);
+    let h = heading(order, apart, two_parts::slot_of(order, t));
+    turned(order, u, apart, p, h)
 }
 
 // The relay after source on the way to target, and target itself where they are the same: `next_hop(Order(2), 0, 23)` is 4.

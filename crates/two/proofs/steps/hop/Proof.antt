@@ -1,9 +1,12 @@
 -- `two::steps::hop` meets its contract. Assumes nothing.
-use Prim.Native.Nat.{ℕ, _<_}
-use mathlib.Core.Path.{_∙_, sym, ap₂, subst}
+use Prim.Native.Nat.{ℕ, _^_, _<_}
+use mathlib.Core.Path.{_≡_, _∙_, sym, ap, ap₂, subst}
+use lib.Bits.{bitXor, xor-shr, xor-lt}
 use Rattle.two_parts.specs.Two.{slots, blocks, blockOf, slotOf}
-use Rattle.two.specs.Next.{step, next}
 use Rattle.two_parts.specs.Parts.{known-bounds, block-below, slot-below}
+use Rattle.two.specs.Next.{heading}
+use Rattle.two.specs.Steps.{heading-below}
+use Rattle.two.specs.Turns.{aim, turned, aim-heading, turned-next}
 use Rattle.two.proofs.steps.hop.Statement.{statement}
 use Rattle.two.proofs.steps.hop.Tie as tie
 
@@ -13,38 +16,50 @@ block-of-requires c κs = known-bounds (c .args .order .0) (c .pre .order) .1
 slot-of-requires : tie.Need-slot-of-requires
 slot-of-requires c κs = known-bounds (c .before .args .order .0) (c .before .pre .order) .1
 
-block-of-requires-2 : tie.Need-block-of-requires-2
-block-of-requires-2 c κs = known-bounds (c .before .before .args .order .0) (c .before .before .pre .order) .1
-
 slot-of-requires-2 : tie.Need-slot-of-requires-2
-slot-of-requires-2 c κs = known-bounds (c .before .before .before .args .order .0) (c .before .before .before .pre .order) .1
+slot-of-requires-2 c κs = known-bounds (c .before .before .args .order .0) (c .before .before .pre .order) .1
 
-step-requires : tie.Need-step-requires
-step-requires c κs =
-    let s = c .before .before .before .before in
+-- the bits in which the blocks differ
+apart : (c : tie.After-slot-of2) → c .before .before .block-of .result .0 ≡ bitXor (blockOf (c .before .before .before .args .order .0) (c .before .before .before .args .u)) (blockOf (c .before .before .before .args .order .0) (c .before .before .before .args .t))
+apart c = let a = c .before .before .before .args in c .before .before .block-of .ensures ∙ xor-shr (a .u) (a .t) (a .order .0)
+
+heading-requires : tie.Need-heading-requires
+heading-requires c κs =
+    let s = c .before .before .before in
     let m = s .args .order .0 in
-    let few = known-bounds m (s .pre .order) .1 in
     record {
-      from = record {
-        order = few;
-        block = subst (λ (x : ℕ). x < blocks m) (sym (c .before .before .before .block-of .ensures)) (block-below m (s .args .u) (s .pre .source));
-        slot = subst (λ (x : ℕ). x < slots m) (sym (c .before .before .slot-of .ensures)) (slot-below m (s .args .u));
-      };
-      to = record {
-        order = few;
-        block = subst (λ (x : ℕ). x < blocks m) (sym (c .before .block-of2 .ensures)) (block-below m (s .args .t) (s .pre .target));
-        slot = subst (λ (x : ℕ). x < slots m) (sym (c .slot-of2 .ensures)) (slot-below m (s .args .t));
-      };
+      order = known-bounds m (s .pre .order) .1;
+      below = subst (λ (x : ℕ). x < blocks m) (sym (apart c)) (xor-lt (2 ^ m) (blockOf m (s .args .u)) (blockOf m (s .args .t)) (block-below m (s .args .u) (s .pre .source)) (block-below m (s .args .t) (s .pre .target)));
+    }
+
+-- the slot to walk to
+aimed : (c : tie.After-heading) → c .heading .result .0 ≡ heading (c .before .before .before .before .args .order .0) (blockOf (c .before .before .before .before .args .order .0) (c .before .before .before .before .args .u)) (blockOf (c .before .before .before .before .args .order .0) (c .before .before .before .before .args .t)) (slotOf (c .before .before .before .before .args .order .0) (c .before .before .before .before .args .t))
+aimed c =
+    let a = c .before .before .before .before .args in
+    let m = a .order .0 in
+    c .heading .ensures ∙ ap₂ (aim m) (apart (c .before)) (c .before .slot-of2 .ensures) ∙ aim-heading m (blockOf m (a .u)) (blockOf m (a .t)) (slotOf m (a .t))
+
+turned-requires : tie.Need-turned-requires
+turned-requires c κs =
+    let s = c .before .before .before .before in
+    let a = s .args in
+    let m = a .order .0 in
+    record {
+      order = known-bounds m (s .pre .order) .1;
+      from = subst (λ (x : ℕ). x < slots m) (sym (c .before .before .slot-of .ensures)) (slot-below m (a .u));
+      to = subst (λ (x : ℕ). x < slots m) (sym (aimed c))
+          (heading-below m (blockOf m (a .u)) (slotOf m (a .u)) (blockOf m (a .t)) (slotOf m (a .t)) (block-below m (a .u) (s .pre .source)) (slot-below m (a .u)) (block-below m (a .t) (s .pre .target)) (slot-below m (a .t)));
     }
 
 returns : tie.Need-returns
-unfolding next
 returns c =
-    let a = c .before .before .before .before .before .args in
+    let s = c .before .before .before .before .before in
+    let a = s .args in
     let m = a .order .0 in
-    c .step .ensures
-    ∙ ap₂ (λ (x y : ℕ). step m x y (c .before .before .block-of2 .result .0) (c .before .slot-of2 .result .0)) (c .before .before .before .before .block-of .ensures) (c .before .before .before .slot-of .ensures)
-    ∙ ap₂ (step m (blockOf m (a .u)) (slotOf m (a .u))) (c .before .before .block-of2 .ensures) (c .before .slot-of2 .ensures)
+    c .turned .ensures
+    ∙ ap₂ (λ (x y : ℕ). turned m (a .u) x y (c .before .heading .result .0)) (apart (c .before .before)) (c .before .before .before .slot-of .ensures)
+    ∙ ap (turned m (a .u) (bitXor (blockOf m (a .u)) (blockOf m (a .t))) (slotOf m (a .u))) (aimed (c .before))
+    ∙ turned-next m (a .u) (a .t) (s .pre .source) (s .pre .target)
 
 pub hop-spec : {M : Type 1} → statement M
-hop-spec = tie.close (tie.spec block-of-requires slot-of-requires block-of-requires-2 slot-of-requires-2 step-requires returns)
+hop-spec = tie.close (tie.spec block-of-requires slot-of-requires slot-of-requires-2 heading-requires turned-requires returns)
