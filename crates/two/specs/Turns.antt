@@ -1,4 +1,4 @@
--- The next hop on a relay's number: one bit of it changes, a slot's or, where the slot is the crossing, the block's bit of the slot (`turned-next`).
+-- The next hop on a relay's number: one bit of it changes, a slot's or, where the slot is the crossing, the block's bit of the slot (`change-next`).
 -- Assumes nothing.
 use Prim.Native.Nat.{ℕ, _+_, _*_, _^_, _≤_, _<_}
 use mathlib.Core.Path.{_≡_, refl, sym, ap, ap₂, _∙_}
@@ -29,9 +29,13 @@ aim m x q = pick (eqb x 0) q (crossing m x)
 unfoldable pub across : (m x p : ℕ) → ℕ
 across m x p = pick (eqb x 0) 0 (2 ^ (m + p))
 
--- u with the bit changed that leads from slot p towards slot h
-unfoldable pub turned : (m u x p h : ℕ) → ℕ
-turned m u x p h = pick (eqb p h) (bitXor u (across m x p)) (flip u (trailingZeros m (bitXor p h)))
+-- the bit that changes on the way from slot p to slot h, and none where they are the same
+unfoldable pub along : (m p h : ℕ) → ℕ
+along m p h = pick (eqb p h) 0 (2 ^ trailingZeros m (bitXor p h))
+
+-- the bit that changes
+unfoldable pub change : (m x p h : ℕ) → ℕ
+change m x p h = pick (eqb p h) (across m x p) (along m p h)
 
 -- ---- each by its cases
 
@@ -51,19 +55,28 @@ pub across-other : (m x p : ℕ) → x ≢ 0 → across m x p ≡ 2 ^ (m + p)
 unfolding across
 across-other m x p ne = ap (λ (z : Bool). pick z 0 (2 ^ (m + p))) (ne-eqb x 0 ne)
 
-pub turned-there : (m u x p h : ℕ) → p ≡ h → turned m u x p h ≡ bitXor u (across m x p)
-unfolding turned
-turned-there m u x p h e = ap (λ (z : Bool). pick z (bitXor u (across m x p)) (flip u (trailingZeros m (bitXor p h)))) (eq-eqb p h e)
+pub along-same : (m p h : ℕ) → p ≡ h → along m p h ≡ 0
+unfolding along
+along-same m p h e = ap (λ (z : Bool). pick z 0 (2 ^ trailingZeros m (bitXor p h))) (eq-eqb p h e)
 
-turned-off : (m u x p h : ℕ) → p ≢ h → turned m u x p h ≡ flip u (trailingZeros m (bitXor p h))
-unfolding turned
-turned-off m u x p h ne = ap (λ (z : Bool). pick z (bitXor u (across m x p)) (flip u (trailingZeros m (bitXor p h)))) (ne-eqb p h ne)
+along-other : (m p h : ℕ) → p ≢ h → along m p h ≡ 2 ^ trailingZeros m (bitXor p h)
+unfolding along
+along-other m p h ne = ap (λ (z : Bool). pick z 0 (2 ^ trailingZeros m (bitXor p h))) (ne-eqb p h ne)
 
 -- as a word of 64 bits has it
-pub turned-lowest : (m u x p h i : ℕ) → p < slots m → h < slots m → p ≢ h → Lowest 64 (bitXor p h) i → turned m u x p h ≡ flip u i
-turned-lowest m u x p h i hp hh ne l =
-    turned-off m u x p h ne
-    ∙ ap (flip u) (lowest-alike m 64 (bitXor p h) (trailingZeros m (bitXor p h)) i (trailing-lowest m (bitXor p h) (λ z. ne (xor-zero-eq p h z)) (xor-lt m p h hp hh)) l)
+pub along-lowest : (m p h i : ℕ) → p < slots m → h < slots m → p ≢ h → Lowest 64 (bitXor p h) i → along m p h ≡ 2 ^ i
+along-lowest m p h i hp hh ne l =
+    along-other m p h ne
+    ∙ ap (λ (j : ℕ). 2 ^ j)
+    (lowest-alike m 64 (bitXor p h) (trailingZeros m (bitXor p h)) i (trailing-lowest m (bitXor p h) (λ z. ne (xor-zero-eq p h z)) (xor-lt m p h hp hh)) l)
+
+pub change-there : (m x p h : ℕ) → p ≡ h → change m x p h ≡ across m x p
+unfolding change
+change-there m x p h e = ap (λ (z : Bool). pick z (across m x p) (along m p h)) (eq-eqb p h e)
+
+pub change-off : (m x p h : ℕ) → p ≢ h → change m x p h ≡ along m p h
+unfolding change
+change-off m x p h ne = ap (λ (z : Bool). pick z (across m x p) (along m p h)) (ne-eqb p h ne)
 
 -- ---- a bit of a part is a bit of the number
 
@@ -117,21 +130,21 @@ module _ (m u t : ℕ) (hu : u < relays m) (ht : t < relays m) where
       trailing-lowest m (bitXor p h) (λ z. ne (xor-zero-eq p h z))
       (xor-lt m p h (slot-below m u) (heading-below m b p c q (block-below m u hu) (slot-below m u) (block-below m t ht) (slot-below m t))) .within
 
-  pub turned-next : turned m u (bitXor (blockOf m u) (blockOf m t)) (slotOf m u) (heading m (blockOf m u) (blockOf m t) (slotOf m t)) ≡ next m u t
+  along-flip : (d : ℕ) → d < m → bitXor u (2 ^ d) ≡ relay m b (flip p d)
+  unfolding flip
+  along-flip d l = ap (λ (v : ℕ). flip v d) (sym (relay-parts m u)) ∙ flip-slot m b p d (slot-below m u) l
+
+  pub change-next : bitXor u (change m (bitXor (blockOf m u) (blockOf m t)) (slotOf m u) (heading m (blockOf m u) (blockOf m t) (slotOf m t))) ≡ next m u t
   unfolding next step nextBlock nextSlot
-  turned-next = go (ℕ-discrete p h) (ℕ-discrete b c)
+  change-next = go (ℕ-discrete p h) (ℕ-discrete b c)
     where
-      go : Dec (p ≡ h) → Dec (b ≡ c) → turned m u (bitXor b c) p h ≡ relay m (crossed b p c h) (toward m p h)
+      go : Dec (p ≡ h) → Dec (b ≡ c) → bitXor u (change m (bitXor b c) p h) ≡ relay m (crossed b p c h) (toward m p h)
       go (yes e) (yes z) =
-          turned-there m u (bitXor b c) p h e
-          ∙ ap (bitXor u) (across-same m (bitXor b c) p (ap (λ (x : ℕ). bitXor x c) z ∙ xor-self c)) ∙ xor-zero-r u
+          ap (bitXor u) (change-there m (bitXor b c) p h e ∙ across-same m (bitXor b c) p (ap (λ (x : ℕ). bitXor x c) z ∙ xor-self c)) ∙ xor-zero-r u
           ∙ sym (ap₂ (relay m) (crossed-there b p c h z) (toward-there m p h e) ∙ relay-parts m u)
       go (yes e) (no ne) =
-          turned-there m u (bitXor b c) p h e
-          ∙ ap (bitXor u) (across-other m (bitXor b c) p (λ z. ne (xor-zero-eq b c z))) ∙ across-flip
+          ap (bitXor u) (change-there m (bitXor b c) p h e ∙ across-other m (bitXor b c) p (λ z. ne (xor-zero-eq b c z))) ∙ across-flip
           ∙ sym (ap₂ (relay m) (crossed-over b p c h ne e) (toward-there m p h e))
       go (no ne) d =
-          turned-off m u (bitXor b c) p h ne
-          ∙ ap (λ (v : ℕ). flip v (trailingZeros m (bitXor p h))) (sym (relay-parts m u))
-          ∙ flip-slot m b p (trailingZeros m (bitXor p h)) (slot-below m u) (low ne)
+          ap (bitXor u) (change-off m (bitXor b c) p h ne ∙ along-other m p h ne) ∙ along-flip (trailingZeros m (bitXor p h)) (low ne)
           ∙ sym (ap₂ (relay m) (crossed-not b p c h ne) (toward-moves m p h ne))

@@ -56,16 +56,28 @@ fn across(order: Order, apart: Block, p: Slot) -> u64
     bits::power((order.0 + p.0) as u32)
 }
 
-// Relay u with the bit changed that leads from its slot p towards slot h: the lowest that differs, or the one across.
-fn turned(order: Order, u: u64, apart: Block, p: Slot, h: Slot) -> u64
+// The bit of a relay's number that changes on the way from slot p to slot h: the lowest that differs, as a number; 0 where they are the same.
+fn along(order: Order, p: Slot, h: Slot) -> u64
     requires { ⌜ Slots (order .0) (p .0) (h .0) ⌝ }
-    ensures { λ r. ⌜ r ≡ turns.turned (order .0) u (apart .0) (p .0) (h .0) ⌝ }
+    ensures { λ r. ⌜ r ≡ turns.along (order .0) (p .0) (h .0) ⌝ }
+{
+    if p.0 == h.0 {
+        return 0;
+    }
+    bits::power(bits::lowest(p.0 ^ h.0))
+}
+
+// The bit of a relay's number that changes at the next hop, from slot p towards slot h. Both are at hand before one is chosen, so that no branch hangs on it.
+fn change(order: Order, apart: Block, p: Slot, h: Slot) -> u64
+    requires { ⌜ Slots (order .0) (p .0) (h .0) ⌝ }
+    ensures { λ r. ⌜ r ≡ turns.change (order .0) (apart .0) (p .0) (h .0) ⌝ }
 {
     let over = across(order, apart, p);
+    let low = along(order, p, h);
     if p.0 == h.0 {
-        return u ^ over;
+        return over;
     }
-    bits::flip(u, bits::lowest(p.0 ^ h.0))
+    low
 }
 
 // The relay after u on the way to t.
@@ -76,7 +88,7 @@ pub fn hop(order: Order, u: u64, t: u64) -> u64
     let apart = two_parts::block_of(order, u ^ t);
     let p = two_parts::slot_of(order, u);
     let h = heading(order, apart, two_parts::slot_of(order, t));
-    turned(order, u, apart, p, h)
+    u ^ change(order, apart, p, h)
 }
 
 // The relay after source on the way to target, and target itself where they are the same: `next_hop(Order(2), 0, 23)` is 4.

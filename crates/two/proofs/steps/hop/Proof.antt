@@ -6,7 +6,7 @@ use Rattle.two_parts.specs.Two.{slots, blocks, blockOf, slotOf}
 use Rattle.two_parts.specs.Parts.{known-bounds, block-below, slot-below}
 use Rattle.two.specs.Next.{heading}
 use Rattle.two.specs.Steps.{heading-below}
-use Rattle.two.specs.Turns.{aim, turned, aim-heading, turned-next}
+use Rattle.two.specs.Turns.{aim, change, aim-heading, change-next}
 use Rattle.two.proofs.steps.hop.Statement.{statement}
 use Rattle.two.proofs.steps.hop.Tie as tie
 
@@ -39,8 +39,8 @@ aimed c =
     let m = a .order .0 in
     c .heading .ensures ∙ ap₂ (aim m) (apart (c .before)) (c .before .slot-of2 .ensures) ∙ aim-heading m (blockOf m (a .u)) (blockOf m (a .t)) (slotOf m (a .t))
 
-turned-requires : tie.Need-turned-requires
-turned-requires c κs =
+change-requires : tie.Need-change-requires
+change-requires c κs =
     let s = c .before .before .before .before in
     let a = s .args in
     let m = a .order .0 in
@@ -56,10 +56,11 @@ returns c =
     let s = c .before .before .before .before .before in
     let a = s .args in
     let m = a .order .0 in
-    c .turned .ensures
-    ∙ ap₂ (λ (x y : ℕ). turned m (a .u) x y (c .before .heading .result .0)) (apart (c .before .before)) (c .before .before .before .slot-of .ensures)
-    ∙ ap (turned m (a .u) (bitXor (blockOf m (a .u)) (blockOf m (a .t))) (slotOf m (a .u))) (aimed (c .before))
-    ∙ turned-next m (a .u) (a .t) (s .pre .source) (s .pre .target)
+    ap (bitXor (a .u))
+    (c .change .ensures
+    ∙ ap₂ (λ (x y : ℕ). change m x y (c .before .heading .result .0)) (apart (c .before .before)) (c .before .before .before .slot-of .ensures)
+    ∙ ap (change m (bitXor (blockOf m (a .u)) (blockOf m (a .t))) (slotOf m (a .u))) (aimed (c .before)))
+    ∙ change-next m (a .u) (a .t) (s .pre .source) (s .pre .target)
 
 pub hop-spec : {M : Type 1} → statement M
-hop-spec = tie.close (tie.spec block-of-requires slot-of-requires slot-of-requires-2 heading-requires turned-requires returns)
+hop-spec = tie.close (tie.spec block-of-requires slot-of-requires slot-of-requires-2 heading-requires change-requires returns)
