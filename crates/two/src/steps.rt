@@ -53,7 +53,7 @@ fn across(order: Order, apart: Block, p: Slot) -> u64
     if apart.0 == 0 {
         return 0;
     }
-    bits::power((order.0 + p.0) as u32)
+    two_parts::slots_in(order) << p.0
 }
 
 // The bit of a relay's number that changes on the way from slot p to slot h: the lowest that differs, as a number; 0 where they are the same.
@@ -85,9 +85,10 @@ pub fn hop(order: Order, u: u64, t: u64) -> u64
     requires { ⌜ Fine (order .0) u t ⌝ }
     ensures { λ r. ⌜ r ≡ next.next (order .0) u t ⌝ }
 {
-    let apart = two_parts::block_of(order, u ^ t);
-    let p = two_parts::slot_of(order, u);
-    let h = heading(order, apart, two_parts::slot_of(order, t));
+    let slots = two_parts::slots_in(order);
+    let apart = Block((u ^ t) / slots);
+    let p = Slot(u % slots);
+    let h = heading(order, apart, Slot(t % slots));
     u ^ change(order, apart, p, h)
 }
 

@@ -1,7 +1,9 @@
 -- `two::steps::hop` meets its contract. Assumes nothing.
-use Prim.Native.Nat.{ℕ, _^_, _<_}
+use Prim.Native.Nat.{ℕ, _/_, _%_, _^_, _<_}
 use mathlib.Core.Path.{_≡_, _∙_, sym, ap, ap₂, subst}
+use native.Mathlib.Omega.{arith}
 use lib.Bits.{bitXor, xor-shr, xor-lt}
+use lib.Pow.{pow-pos}
 use Rattle.two_parts.specs.Two.{slots, blocks, blockOf, slotOf}
 use Rattle.two_parts.specs.Parts.{known-bounds, block-below, slot-below}
 use Rattle.two.specs.Next.{heading}
@@ -10,22 +12,29 @@ use Rattle.two.specs.Turns.{aim, change, aim-heading, change-next}
 use Rattle.two.proofs.steps.hop.Statement.{statement}
 use Rattle.two.proofs.steps.hop.Tie as tie
 
-block-of-requires : tie.Need-block-of-requires
-block-of-requires c κs = known-bounds (c .args .order .0) (c .pre .order) .1
+slots-in-requires : tie.Need-slots-in-requires
+slots-in-requires c κs = known-bounds (c .args .order .0) (c .pre .order) .1
 
-slot-of-requires : tie.Need-slot-of-requires
-slot-of-requires c κs = known-bounds (c .before .args .order .0) (c .before .pre .order) .1
+div-t9 : tie.Need-div-t9
+div-t9 c = omega (arith, c .slots-in .ensures, pow-pos (c .before .args .order .0))
 
-slot-of-requires-2 : tie.Need-slot-of-requires-2
-slot-of-requires-2 c κs = known-bounds (c .before .before .args .order .0) (c .before .before .pre .order) .1
+rem-result : tie.Need-rem-result
+rem-result c = omega (arith, c .slots-in .ensures, pow-pos (c .before .args .order .0))
+
+rem-t9 : tie.Need-rem-t9
+rem-t9 c = omega (arith, c .slots-in .ensures, pow-pos (c .before .args .order .0))
 
 -- the bits in which the blocks differ
-apart : (c : tie.After-slot-of2) → c .before .before .block-of .result .0 ≡ bitXor (blockOf (c .before .before .before .args .order .0) (c .before .before .before .args .u)) (blockOf (c .before .before .before .args .order .0) (c .before .before .before .args .t))
-apart c = let a = c .before .before .before .args in c .before .before .block-of .ensures ∙ xor-shr (a .u) (a .t) (a .order .0)
+apart : (c : tie.After-slots-in) → bitXor (c .before .args .u) (c .before .args .t) / c .slots-in .result ≡ bitXor (blockOf (c .before .args .order .0) (c .before .args .u)) (blockOf (c .before .args .order .0) (c .before .args .t))
+apart c = let a = c .before .args in ap (λ (n : ℕ). bitXor (a .u) (a .t) / n) (c .slots-in .ensures) ∙ xor-shr (a .u) (a .t) (a .order .0)
+
+-- a relay's slot
+slot : (c : tie.After-slots-in) (r : ℕ) → r % c .slots-in .result ≡ slotOf (c .before .args .order .0) r
+slot c r = ap (λ (n : ℕ). r % n) (c .slots-in .ensures)
 
 heading-requires : tie.Need-heading-requires
 heading-requires c κs =
-    let s = c .before .before .before in
+    let s = c .before in
     let m = s .args .order .0 in
     record {
       order = known-bounds m (s .pre .order) .1;
@@ -33,34 +42,34 @@ heading-requires c κs =
     }
 
 -- the slot to walk to
-aimed : (c : tie.After-heading) → c .heading .result .0 ≡ heading (c .before .before .before .before .args .order .0) (blockOf (c .before .before .before .before .args .order .0) (c .before .before .before .before .args .u)) (blockOf (c .before .before .before .before .args .order .0) (c .before .before .before .before .args .t)) (slotOf (c .before .before .before .before .args .order .0) (c .before .before .before .before .args .t))
+aimed : (c : tie.After-heading) → c .heading .result .0 ≡ heading (c .before .before .args .order .0) (blockOf (c .before .before .args .order .0) (c .before .before .args .u)) (blockOf (c .before .before .args .order .0) (c .before .before .args .t)) (slotOf (c .before .before .args .order .0) (c .before .before .args .t))
 aimed c =
-    let a = c .before .before .before .before .args in
+    let a = c .before .before .args in
     let m = a .order .0 in
-    c .heading .ensures ∙ ap₂ (aim m) (apart (c .before)) (c .before .slot-of2 .ensures) ∙ aim-heading m (blockOf m (a .u)) (blockOf m (a .t)) (slotOf m (a .t))
+    c .heading .ensures ∙ ap₂ (aim m) (apart (c .before)) (slot (c .before) (a .t)) ∙ aim-heading m (blockOf m (a .u)) (blockOf m (a .t)) (slotOf m (a .t))
 
 change-requires : tie.Need-change-requires
 change-requires c κs =
-    let s = c .before .before .before .before in
+    let s = c .before .before in
     let a = s .args in
     let m = a .order .0 in
     record {
       order = known-bounds m (s .pre .order) .1;
-      from = subst (λ (x : ℕ). x < slots m) (sym (c .before .before .slot-of .ensures)) (slot-below m (a .u));
+      from = subst (λ (x : ℕ). x < slots m) (sym (slot (c .before) (a .u))) (slot-below m (a .u));
       to = subst (λ (x : ℕ). x < slots m) (sym (aimed c))
           (heading-below m (blockOf m (a .u)) (slotOf m (a .u)) (blockOf m (a .t)) (slotOf m (a .t)) (block-below m (a .u) (s .pre .source)) (slot-below m (a .u)) (block-below m (a .t) (s .pre .target)) (slot-below m (a .t)));
     }
 
 returns : tie.Need-returns
 returns c =
-    let s = c .before .before .before .before .before in
+    let s = c .before .before .before in
     let a = s .args in
     let m = a .order .0 in
     ap (bitXor (a .u))
     (c .change .ensures
-    ∙ ap₂ (λ (x y : ℕ). change m x y (c .before .heading .result .0)) (apart (c .before .before)) (c .before .before .before .slot-of .ensures)
+    ∙ ap₂ (λ (x y : ℕ). change m x y (c .before .heading .result .0)) (apart (c .before .before)) (slot (c .before .before) (a .u))
     ∙ ap (change m (bitXor (blockOf m (a .u)) (blockOf m (a .t))) (slotOf m (a .u))) (aimed (c .before)))
     ∙ change-next m (a .u) (a .t) (s .pre .source) (s .pre .target)
 
 pub hop-spec : {M : Type 1} → statement M
-hop-spec = tie.close (tie.spec block-of-requires slot-of-requires slot-of-requires-2 heading-requires change-requires returns)
+hop-spec = tie.close (tie.spec slots-in-requires div-t9 rem-result rem-t9 heading-requires change-requires returns)
