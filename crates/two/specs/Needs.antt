@@ -16,13 +16,7 @@ fine m s t f e =
     let p = pair-sound (known m) (relays m) s t (sym e ∙ ap against f) in
     record { order = p .0; source = p .1; target = p .2 }
 
--- the bits in which two blocks differ, and there are such
-pub record Apart (m x : ℕ) : Type 0 where
-  pub order : m ≤ 5
-  pub below : x < blocks m
-  pub some : x ≡ 0 → ⊥
-
--- the same, and there may be none
+-- the bits in which two blocks differ
 pub record Differ (m x : ℕ) : Type 0 where
   pub order : m ≤ 5
   pub below : x < blocks m

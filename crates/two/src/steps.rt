@@ -6,7 +6,7 @@ ghost use Rattle.two.specs.Next as next;
 ghost use Rattle.two.specs.Ordered as order;
 ghost use Rattle.two.specs.Turns as turns;
 ghost use Rattle.two.specs.Says.{nextTold};
-ghost use Rattle.two.specs.Needs.{Apart, Differ, Slots};
+ghost use Rattle.two.specs.Needs.{Differ, Slots};
 ghost use Rattle.two_parts.specs.Needs.{Fine};
 use crate::parts;
 use answers::Answer;
@@ -26,12 +26,13 @@ fn ordered(x: u64) -> u64
     bits::swap(by_two, 0x44444444, 1)
 }
 
-// Of the bits in which two blocks differ, the one to correct first: the slot at which to cross. The order of block bits is here alone.
+// Of the bits in which two blocks differ, the one to correct first: the slot at which to cross. The order of block bits is here alone. Of no bits any slot is
+// told, so that nobody has to ask first.
 fn crossing(order: Order, x: u64) -> Slot
-    requires { ⌜ Apart (order .0) x ⌝ }
-    ensures { λ r. ⌜ r .0 ≡ next.crossing (order .0) x ⌝ }
+    requires { ⌜ Differ (order .0) x ⌝ }
+    ensures { λ r. ⌜ ((x ≡ 0 → ⊥) → r .0 ≡ next.crossing (order .0) x) ⌝ }
 {
-    Slot(bits::gray(bits::lowest(ordered(x)) as u64))
+    Slot(bits::gray(bits::first(ordered(x)) as u64))
 }
 
 // The slot to walk to, where the blocks differ in the bits of `apart` and the target's slot is q.
@@ -39,10 +40,11 @@ fn heading(order: Order, apart: Block, q: Slot) -> Slot
     requires { ⌜ Differ (order .0) (apart .0) ⌝ }
     ensures { λ r. ⌜ r .0 ≡ turns.aim (order .0) (apart .0) (q .0) ⌝ }
 {
+    let far = crossing(order, apart.0);
     if apart.0 == 0 {
         return q;
     }
-    crossing(order, apart.0)
+    far
 }
 
 // The bit of a relay's number that changes where its slot p is the one to walk to: the block's bit p, as a number; 0 where the blocks agree.

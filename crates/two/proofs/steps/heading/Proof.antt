@@ -4,16 +4,16 @@ use Rattle.two.specs.Turns.{aim-same, aim-other}
 use Rattle.two.proofs.steps.heading.Statement.{statement}
 use Rattle.two.proofs.steps.heading.Tie as tie
 
-returns : tie.Need-returns
-returns c = let a = c .before .before .args in sym (aim-same (a .order .0) (a .apart .0) (a .q .0) (c .if1 .taken))
-
 crossing-requires : tie.Need-crossing-requires
-crossing-requires c κs = let s = c .before .before in record { order = s .pre .order; below = s .pre .below; some = c .if1 .left }
+crossing-requires c κs = c .pre
+
+returns : tie.Need-returns
+returns c = let a = c .before .before .before .args in sym (aim-same (a .order .0) (a .apart .0) (a .q .0) (c .if1 .taken))
 
 returns-2 : tie.Need-returns-2
 returns-2 c =
     let a = c .before .before .before .args in
-    c .crossing .ensures ∙ sym (aim-other (a .order .0) (a .apart .0) (a .q .0) (c .before .if1 .left))
+    c .before .before .crossing .ensures (c .if1 .left) ∙ sym (aim-other (a .order .0) (a .apart .0) (a .q .0) (c .if1 .left))
 
 pub heading-spec : {M : Type 1} → statement M
-heading-spec = tie.close (tie.spec returns crossing-requires returns-2)
+heading-spec = tie.close (tie.spec crossing-requires returns returns-2)
