@@ -2,7 +2,7 @@
 -- (`gray-next`), so that two of them differ in no more bits than there are steps between them (`gray-near`); and the first 2 ^ m of them are the
 -- numbers below 2 ^ m, each once (`gray-lt`, `gray-onto`, `gray-one`), for every m. Assumes nothing.
 use Prim.Native.Nat.{ℕ, zero, suc, _+_, _-_, _*_, _/_, _%_, _^_, _≤_, _<_}
-use mathlib.Core.Path.{_≡_, refl, sym, ap, ap₂, _∙_}
+use mathlib.Core.Path.{_≡_, refl, sym, ap, _∙_}
 use mathlib.Core.Logic.{_⊎_, inl, inr, ⊎-elim}
 use native.Mathlib.Nat.{mod-lt, pow-suc, zero-lt-suc}
 use native.Mathlib.Omega.{arith}

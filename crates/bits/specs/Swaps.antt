@@ -2,8 +2,7 @@
 -- bit of x at `partner` (`swapped-bit`). Assumes nothing.
 use Prim.Native.Nat.{ℕ, zero, suc, _+_, _-_, _*_, _/_, _%_, _^_, _≤_, _<_, min}
 use mathlib.Core.Path.{_≡_, refl, sym, ap, ap₂, _∙_}
-use mathlib.Core.Logic.{_⊎_, inl, inr, ⊎-elim}
-use native.Mathlib.Nat.{zero-mul, one-mul}
+use mathlib.Core.Logic.{_⊎_, inl, inr}
 use native.Mathlib.Omega.{arith}
 use lib.Bits.{bitXor, bitAnd, differ, shifted-half, shifted-even}
 use lib.Pow.{shr-shr, shl-shr}

@@ -10,7 +10,7 @@ use borrow.Author.Tests.{eqb-true, eq-eqb}
 use Rattle.bits.specs.Bit.{bit, flip}
 use Rattle.bits.specs.Laws.{trailing-lowest, flip-lt, flip-same, flip-other, clash, same-or, lt-or-le, bit-off}
 use Rattle.bits.specs.Gray.{gray, gray-lt, gray-onto, gray-near}
-use Rattle.scan.specs.Scan.{seek, any}
+use Rattle.scan.specs.Scan.{any}
 use Rattle.scan.specs.Laws.{First, found-at, seek-first, true-any}
 use Rattle.paths.specs.Walk.{number}
 use Rattle.two_parts.specs.Two.{slots, blocks}

@@ -1,7 +1,7 @@
 -- The next hop on a relay's number: one bit of it changes, a slot's or, where the slot is the crossing, the block's bit of the slot (`change-next`).
 -- Assumes nothing.
-use Prim.Native.Nat.{ℕ, _+_, _*_, _^_, _≤_, _<_}
-use mathlib.Core.Path.{_≡_, refl, sym, ap, ap₂, _∙_}
+use Prim.Native.Nat.{ℕ, _+_, _*_, _^_, _<_}
+use mathlib.Core.Path.{_≡_, sym, ap, ap₂, _∙_}
 use mathlib.Core.Bool.{Bool}
 use mathlib.Core.Logic.{_≢_}
 use native.Mathlib.Nat.{zero-mul, add-comm}
@@ -15,7 +15,7 @@ use borrow.Author.Tests.{eq-eqb, ne-eqb}
 use Rattle.bits.specs.Bit.{flip, Lowest}
 use Rattle.bits.specs.Laws.{trailing-lowest, xor-zero-eq}
 use Rattle.scan.specs.Scan.{pick}
-use Rattle.two_parts.specs.Two.{slots, blocks, relays, blockOf, slotOf, relay}
+use Rattle.two_parts.specs.Two.{slots, relays, blockOf, slotOf, relay}
 use Rattle.two_parts.specs.Digits.{lowest-alike}
 use Rattle.two_parts.specs.Parts.{relay-parts, block-below, slot-below}
 use Rattle.two.specs.Next.{crossing, heading, crossed, toward, step, next, nextBlock, nextSlot}

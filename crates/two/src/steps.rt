@@ -26,8 +26,8 @@ fn ordered(x: u64) -> u64
     bits::swap(by_two, 0x44444444, 1)
 }
 
-// Of the bits in which two blocks differ, the one to correct first: the slot at which to cross. The order of block bits is here alone. Of no bits any slot is
-// told, so that nobody has to ask first.
+// Of the bits in which two blocks differ, the one to correct first: the slot at which to cross. The order of block bits is here alone. Where they
+// differ in none, what is told means nothing.
 fn crossing(order: Order, x: u64) -> Slot
     requires { ⌜ Differ (order .0) x ⌝ }
     ensures { λ r. ⌜ ((x ≡ 0 → ⊥) → r .0 ≡ next.crossing (order .0) x) ⌝ }
@@ -69,7 +69,8 @@ fn along(order: Order, p: Slot, h: Slot) -> u64
     bits::power(bits::lowest(p.0 ^ h.0))
 }
 
-// The bit of a relay's number that changes at the next hop, from slot p towards slot h. Both are at hand before one is chosen, so that no branch hangs on it.
+// The bit of a relay's number that changes at the next hop, from slot p towards slot h. Both bits are at hand before one is chosen: a choice between values is
+// no branch, which a relay's frames would have guessed wrong half of the time.
 fn change(order: Order, apart: Block, p: Slot, h: Slot) -> u64
     requires { ⌜ Slots (order .0) (p .0) (h .0) ⌝ }
     ensures { λ r. ⌜ r ≡ turns.change (order .0) (apart .0) (p .0) (h .0) ⌝ }

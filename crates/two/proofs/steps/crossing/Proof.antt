@@ -1,6 +1,6 @@
 -- `two::steps::crossing` meets its contract: the lowest bit of those in order stands at the place of the crossing. Assumes nothing.
 use Prim.Native.Nat.{ℕ}
-use mathlib.Core.Path.{_≡_, sym, ap, subst, _∙_}
+use mathlib.Core.Path.{sym, ap, subst, _∙_}
 use native.Mathlib.Omega.{arith}
 use borrow.Author.Needs.{needs}
 use Rattle.bits.specs.Bit.{Lowest}
