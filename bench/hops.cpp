@@ -1,6 +1,6 @@
 // Nanoseconds a next hop of the two-level mesh, for orders 1 to 5: the library's call beside the rule written in C++, which seeks the first differing block
-// bit of the Gray order place by place. Half of the pairs are spread over the mesh, half are relays on the way; the best of many bursts. And the hops of
-// plain routes between relays at random, beside the most that a route may have.
+// bit of the Gray order place by place. What is asked: the relays on plain routes, each at any of its hops; the best of many bursts. And the hops of plain
+// routes between relays at random, beside the most that a route may have.
 #include "../include/gustparsley.h"
 
 #include <algorithm>
@@ -16,22 +16,10 @@ struct Pair {
   uint64_t source, target;
 };
 
-uint64_t big_endian(const uint8_t *at) {
-  uint64_t x = 0;
-  for (int i = 0; i < 8; ++i) x = x << 8 | at[i];
-  return x;
-}
-
-uint64_t library(uint64_t m, uint64_t source, uint64_t target) {
-  uint8_t out[8];
-  if (gust_next_hop(GUST_TWO_LEVEL, m, source, target, out, 8)) std::abort();
-  return big_endian(out);
-}
-
 uint64_t lowest(uint64_t x) { return x & (~x + 1); }
 
-// The same by the rule.
-__attribute__((noinline)) uint64_t rule(uint64_t m, uint64_t source, uint64_t target) {
+// The next hop by the rule.
+uint64_t rule(uint64_t m, uint64_t source, uint64_t target) {
   const uint64_t slots = uint64_t{1} << m, slot = source & (slots - 1), goal = target & (slots - 1);
   const uint64_t apart = (source ^ target) >> m;
   uint64_t p = goal;
@@ -44,35 +32,48 @@ __attribute__((noinline)) uint64_t rule(uint64_t m, uint64_t source, uint64_t ta
   return apart ? source ^ (uint64_t{1} << p << m) : source;
 }
 
+// The call that the library has, by the rule.
+__attribute__((noinline)) uint64_t by_rule(uint64_t kind, uint64_t m, uint64_t source, uint64_t target, uint8_t *out, size_t length) {
+  if (kind != GUST_TWO_LEVEL || m < 1 || m > 5) return GUST_UNKNOWN_SIZE * 256;
+  const uint64_t relays = uint64_t{1} << (m + (uint64_t{1} << m));
+  if (source >= relays) return GUST_SOURCE_OUT * 256;
+  if (target >= relays) return GUST_TARGET_OUT * 256;
+  if (length < 8) return GUST_NO_ROOM * 256;
+  const uint64_t next = rule(m, source, target);
+  for (int i = 0; i < 8; ++i) out[i] = static_cast<uint8_t>(next >> (56 - 8 * i));
+  return 0;
+}
+
 std::vector<Pair> pairs(unsigned m, std::mt19937_64 &random) {
   const uint64_t slots = uint64_t{1} << m, mask = (slots << slots) - 1;
   std::vector<Pair> all;
   while (all.size() < 4096) {
-    uint64_t at = random() & mask;
     const uint64_t target = random() & mask;
-    all.push_back({at, target});
-    for (uint64_t k = random() % (4 * slots); k > 0; --k) at = rule(m, at, target);
-    all.push_back({at, target});
+    std::vector<uint64_t> way;
+    for (uint64_t at = random() & mask; at != target; at = rule(m, at, target)) way.push_back(at);
+    if (!way.empty()) all.push_back({way[random() % way.size()], target});
   }
   return all;
 }
 
-template <class Hop>
-double burst(unsigned m, const std::vector<Pair> &all, Hop hop, uint64_t &sum) {
+using Call = uint64_t (*)(uint64_t, uint64_t, uint64_t, uint64_t, uint8_t *, size_t);
+
+double burst(unsigned m, const std::vector<Pair> &all, Call call, std::vector<uint8_t> &out) {
   const auto start = std::chrono::steady_clock::now();
-  for (const Pair &p : all) sum += hop(m, p.source, p.target);
+  for (size_t i = 0; i < all.size(); ++i)
+    if (call(GUST_TWO_LEVEL, m, all[i].source, all[i].target, &out[8 * i], 8)) std::abort();
   return std::chrono::duration<double, std::nano>(std::chrono::steady_clock::now() - start).count() / static_cast<double>(all.size());
 }
 
 void row(unsigned m, std::mt19937_64 &random) {
   const std::vector<Pair> all = pairs(m, random);
+  std::vector<uint8_t> ours(8 * all.size()), theirs(8 * all.size());
   double a = 1e99, b = 1e99;
-  for (int i = 0; i < 400; ++i) {
-    uint64_t ours = 0, theirs = 0;
-    a = std::min(a, burst(m, all, library, ours));
-    b = std::min(b, burst(m, all, rule, theirs));
-    if (ours != theirs) std::abort();
+  for (int i = 0; i < 300; ++i) {
+    a = std::min(a, burst(m, all, gust_next_hop, ours));
+    b = std::min(b, burst(m, all, by_rule, theirs));
   }
+  if (ours != theirs) std::abort();
   const uint64_t slots = uint64_t{1} << m, mask = (slots << slots) - 1;
   uint64_t out[207], worst = 0;
   double hops = 0;
