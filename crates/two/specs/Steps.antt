@@ -30,25 +30,31 @@ use Rattle.paths.specs.Ends.{walk-ends, node-keeps}
 
 -- ---- the next hop's parts, case by case
 
+pub pick-same : (a b x y : ℕ) → a ≡ b → pick (eqb a b) x y ≡ x
+pick-same a b x y e = ap (λ (z : Bool). pick z x y) (eq-eqb a b e)
+
+pub pick-other : (a b x y : ℕ) → a ≢ b → pick (eqb a b) x y ≡ y
+pick-other a b x y ne = ap (λ (z : Bool). pick z x y) (ne-eqb a b ne)
+
 pub heading-same : (m b c q : ℕ) → b ≡ c → heading m b c q ≡ q
 unfolding heading
-heading-same m b c q e = ap (λ (x : Bool). pick x q (crossing m (bitXor b c))) (eq-eqb b c e)
+heading-same m b c q e = pick-same b c q (crossing m (bitXor b c)) e
 
 pub heading-other : (m b c q : ℕ) → b ≢ c → heading m b c q ≡ crossing m (bitXor b c)
 unfolding heading
-heading-other m b c q ne = ap (λ (x : Bool). pick x q (crossing m (bitXor b c))) (ne-eqb b c ne)
+heading-other m b c q ne = pick-other b c q (crossing m (bitXor b c)) ne
 
 pub crossed-there : (b p c h : ℕ) → b ≡ c → crossed b p c h ≡ b
 unfolding crossed
-crossed-there b p c h e = ap (λ (x : Bool). pick x b (pick (eqb p h) (flip b p) b)) (eq-eqb b c e)
+crossed-there b p c h e = pick-same b c b (pick (eqb p h) (flip b p) b) e
 
 pub crossed-over : (b p c h : ℕ) → b ≢ c → p ≡ h → crossed b p c h ≡ flip b p
 unfolding crossed
-crossed-over b p c h ne e = ap₂ (λ (x y : Bool). pick x b (pick y (flip b p) b)) (ne-eqb b c ne) (eq-eqb p h e)
+crossed-over b p c h ne e = pick-other b c b (pick (eqb p h) (flip b p) b) ne ∙ pick-same p h (flip b p) b e
 
 pub crossed-not : (b p c h : ℕ) → p ≢ h → crossed b p c h ≡ b
 unfolding crossed
-crossed-not b p c h ne = ap (λ (y : Bool). pick (eqb b c) b (pick y (flip b p) b)) (ne-eqb p h ne) ∙ either (eqb b c)
+crossed-not b p c h ne = ap (pick (eqb b c) b) (pick-other p h (flip b p) b ne) ∙ either (eqb b c)
   where
     either : (x : Bool) → pick x b b ≡ b
     either true = refl
@@ -56,11 +62,11 @@ crossed-not b p c h ne = ap (λ (y : Bool). pick (eqb b c) b (pick y (flip b p) 
 
 pub toward-there : (m p q : ℕ) → p ≡ q → toward m p q ≡ p
 unfolding toward
-toward-there m p q e = ap (λ (x : Bool). pick x p (flip p (trailingZeros m (bitXor p q)))) (eq-eqb p q e)
+toward-there m p q e = pick-same p q p (flip p (trailingZeros m (bitXor p q))) e
 
 pub toward-moves : (m p q : ℕ) → p ≢ q → toward m p q ≡ flip p (trailingZeros m (bitXor p q))
 unfolding toward
-toward-moves m p q ne = ap (λ (x : Bool). pick x p (flip p (trailingZeros m (bitXor p q)))) (ne-eqb p q ne)
+toward-moves m p q ne = pick-other p q p (flip p (trailingZeros m (bitXor p q))) ne
 
 -- ---- one hop, by blocks and slots
 
@@ -122,11 +128,11 @@ rank m b p c q = ones (bitXor p (heading m b c q)) + rest m (bitXor b c)
 
 rest-none : (m x : ℕ) → x ≡ 0 → rest m x ≡ 0
 unfolding rest
-rest-none m x e = ap (λ (y : Bool). pick y 0 (ones x + (2 ^ m - suc (place m x)) + m)) (eq-eqb x 0 e)
+rest-none m x e = pick-same x 0 0 (ones x + (2 ^ m - suc (place m x)) + m) e
 
 rest-some : (m x : ℕ) → x ≢ 0 → rest m x ≡ ones x + (2 ^ m - suc (place m x)) + m
 unfolding rest
-rest-some m x ne = ap (λ (y : Bool). pick y 0 (ones x + (2 ^ m - suc (place m x)) + m)) (ne-eqb x 0 ne)
+rest-some m x ne = pick-other x 0 0 (ones x + (2 ^ m - suc (place m x)) + m) ne
 
 pow-next : (m : ℕ) → 2 ^ (m + 1) ≡ 2 ^ m + 2 ^ m
 pow-next m = ap (λ (j : ℕ). 2 ^ j) (add-one m) ∙ pow-suc 2 m ∙ omega arith

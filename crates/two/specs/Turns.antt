@@ -2,7 +2,6 @@
 -- Assumes nothing.
 use Prim.Native.Nat.{ℕ, _+_, _*_, _^_, _<_}
 use mathlib.Core.Path.{_≡_, sym, ap, ap₂, _∙_}
-use mathlib.Core.Bool.{Bool}
 use mathlib.Core.Logic.{_≢_}
 use native.Mathlib.Nat.{zero-mul, add-comm}
 use native.Mathlib.Omega.{arith}
@@ -11,7 +10,6 @@ use lib.Bits.{bitXor, xor-lt, xor-self, xor-zero-r, xor-block}
 use lib.Count.{trailingZeros}
 use lib.Dec.{eqb}
 use lib.Pow.{pow-add, pow-lt, pow-pos}
-use borrow.Author.Tests.{eq-eqb, ne-eqb}
 use Rattle.bits.specs.Bit.{flip, Lowest}
 use Rattle.bits.specs.Laws.{trailing-lowest, xor-zero-eq}
 use Rattle.scan.specs.Scan.{pick}
@@ -19,7 +17,7 @@ use Rattle.two_parts.specs.Two.{slots, relays, blockOf, slotOf, relay}
 use Rattle.two_parts.specs.Digits.{lowest-alike}
 use Rattle.two_parts.specs.Parts.{relay-parts, block-below, slot-below}
 use Rattle.two.specs.Next.{crossing, heading, crossed, toward, step, next, nextBlock, nextSlot}
-use Rattle.two.specs.Steps.{heading-same, heading-other, heading-below, crossed-there, crossed-over, crossed-not, toward-there, toward-moves}
+use Rattle.two.specs.Steps.{pick-same, pick-other, heading-same, heading-other, heading-below, crossed-there, crossed-over, crossed-not, toward-there, toward-moves}
 
 -- the slot to walk to, where the blocks differ in the bits x and the target's slot is q
 unfoldable pub aim : (m x q : ℕ) → ℕ
@@ -41,27 +39,27 @@ change m x p h = pick (eqb p h) (across m x p) (along m p h)
 
 pub aim-same : (m x q : ℕ) → x ≡ 0 → aim m x q ≡ q
 unfolding aim
-aim-same m x q e = ap (λ (z : Bool). pick z q (crossing m x)) (eq-eqb x 0 e)
+aim-same m x q e = pick-same x 0 q (crossing m x) e
 
 pub aim-other : (m x q : ℕ) → x ≢ 0 → aim m x q ≡ crossing m x
 unfolding aim
-aim-other m x q ne = ap (λ (z : Bool). pick z q (crossing m x)) (ne-eqb x 0 ne)
+aim-other m x q ne = pick-other x 0 q (crossing m x) ne
 
 pub across-same : (m x p : ℕ) → x ≡ 0 → across m x p ≡ 0
 unfolding across
-across-same m x p e = ap (λ (z : Bool). pick z 0 (2 ^ (m + p))) (eq-eqb x 0 e)
+across-same m x p e = pick-same x 0 0 (2 ^ (m + p)) e
 
 pub across-other : (m x p : ℕ) → x ≢ 0 → across m x p ≡ 2 ^ (m + p)
 unfolding across
-across-other m x p ne = ap (λ (z : Bool). pick z 0 (2 ^ (m + p))) (ne-eqb x 0 ne)
+across-other m x p ne = pick-other x 0 0 (2 ^ (m + p)) ne
 
 pub along-same : (m p h : ℕ) → p ≡ h → along m p h ≡ 0
 unfolding along
-along-same m p h e = ap (λ (z : Bool). pick z 0 (2 ^ trailingZeros m (bitXor p h))) (eq-eqb p h e)
+along-same m p h e = pick-same p h 0 (2 ^ trailingZeros m (bitXor p h)) e
 
 along-other : (m p h : ℕ) → p ≢ h → along m p h ≡ 2 ^ trailingZeros m (bitXor p h)
 unfolding along
-along-other m p h ne = ap (λ (z : Bool). pick z 0 (2 ^ trailingZeros m (bitXor p h))) (ne-eqb p h ne)
+along-other m p h ne = pick-other p h 0 (2 ^ trailingZeros m (bitXor p h)) ne
 
 -- as a word of 64 bits has it
 pub along-lowest : (m p h i : ℕ) → p < slots m → h < slots m → p ≢ h → Lowest 64 (bitXor p h) i → along m p h ≡ 2 ^ i
@@ -72,11 +70,11 @@ along-lowest m p h i hp hh ne l =
 
 pub change-there : (m x p h : ℕ) → p ≡ h → change m x p h ≡ across m x p
 unfolding change
-change-there m x p h e = ap (λ (z : Bool). pick z (across m x p) (along m p h)) (eq-eqb p h e)
+change-there m x p h e = pick-same p h (across m x p) (along m p h) e
 
 pub change-off : (m x p h : ℕ) → p ≢ h → change m x p h ≡ along m p h
 unfolding change
-change-off m x p h ne = ap (λ (z : Bool). pick z (across m x p) (along m p h)) (ne-eqb p h ne)
+change-off m x p h ne = pick-other p h (across m x p) (along m p h) ne
 
 -- ---- a bit of a part is a bit of the number
 
