@@ -75,7 +75,10 @@ enum {
 /* ---- the region host's two calls. Each returns number * 256 + place, so 0 for success. (Every place told here is below 256.) */
 
 /* Writes the relay after `source` on the plain route to `target`, 8 bytes big-endian, at the start of `out`; it is `source` itself where that is the target.
- * Bytes of `out` after the eighth stay as they were. Numbers, in this order: 1, 2, 5, and 8 where `out_len` is below 8. */
+ * Bytes of `out` after the eighth stay as they were. Numbers, in this order: 1, 2, 5, and 8 where `out_len` is below 8.
+ * The plain route changes the lowest differing bit in a cube. In the two-level mesh, while blocks differ, the slot walks to p, the differing block bit that
+ * comes first in the reflected Gray order (i xor (i div 2) for i = 0, 1, 2 and so on), and the block's bit p is changed there; then it walks to the target's
+ * slot. A slot walks by its lowest differing bit. No route of order m has more than 2^(m+1) + 2m - 1 hops. */
 uint64_t gust_next_hop(uint64_t kind, uint64_t size, uint64_t source, uint64_t target, uint8_t *out, size_t out_len);
 
 /* Plans a fan from `source` to the targets, numbers of 8 bytes each, big-endian, and writes its sheet (docs/SHEETS.md) at the start of `out`: a path to

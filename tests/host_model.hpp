@@ -53,13 +53,17 @@ struct Mesh {
 
   static uint64_t lowest(uint64_t x) { return x & (~x + 1); }
 
+  // The slot at place i of the reflected Gray order.
+  static uint64_t gray(uint64_t i) { return i ^ (i / 2); }
+
   uint64_t next(uint64_t u, uint64_t t) const {
     if (u == t) return u;
     if (kind == 1) return u ^ lowest(u ^ t);
     const uint64_t apart = block(u) ^ block(t);
     if (apart == 0) return u ^ lowest(slot(u) ^ slot(t));
-    uint64_t p = 0;
-    while (!((apart >> p) & 1)) ++p;
+    uint64_t i = 0;
+    while (!((apart >> gray(i)) & 1)) ++i;
+    const uint64_t p = gray(i);
     if (slot(u) != p) return u ^ lowest(slot(u) ^ p);
     return (block(u) ^ (uint64_t{1} << p)) * slots() + slot(u);
   }

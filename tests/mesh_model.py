@@ -108,5 +108,11 @@ def cases():
     for s, t in ((0, 1), (0, 2), (0, 4), (0, 3), (0, 8), (27, 25), (27, 26), (27, 59), (27, 11), (0, 23), (23, 0)):
         yield 2, 2, s, t, 12
     yield 1, 4, 0, 11, 6
+    # block bits in Gray order; 2^(m+1) + 2m - 1 hops, the most that a route has, in each order
+    for s, t in ((0, 60), (0, 63)):
+        yield 2, 2, s, t, 12
+    yield 2, 3, 0, 2040, 17
+    for m, s, t in ((1, 1, 6), (2, 3, 61), (3, 7, 2043), (4, 15, 1048567), (5, 31, 137438953455)):
+        yield 2, m, s, t, 2 ** (m + 1) + 2 * m
     for t in range(8):
         yield 2, 1, 0, t, 8

@@ -43,8 +43,14 @@ def neighbours(u):
     return [(block, changed(slot, i)) for i in range(len(slot))] + [(changed(block, value(slot)), slot)]
 
 
+def reflected(m):
+    """The slots in the reflected Gray order: i xor (i div 2) for i = 0, 1, 2 and so on."""
+    return [i ^ i // 2 for i in range(2**m)]
+
+
 def next_hop(m, u, t):
-    wrong = differing(u[0], t[0])
+    """Of the differing block bits, the one whose place in the reflected Gray order is lowest; of the differing slot bits, the lowest."""
+    wrong = [p for p in reflected(m) if u[0][p] != t[0][p]]
     goal = bits(wrong[0], m) if wrong else t[1]
     turn = differing(u[1], goal)
     if turn:

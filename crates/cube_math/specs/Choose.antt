@@ -8,9 +8,9 @@ use native.Mathlib.Decide.{ℕ-discrete}
 use lib.Bits.{bitXor, bitOr}
 use lib.Count.{ones}
 use Rattle.bits.specs.Bit.{bit, flip}
-use Rattle.bits.specs.Laws.{ones-set, bit-cases, bit-lt, bit-none, clash, flip-same, flip-other, ones-clear, xor-zero-eq, same-or, flip-moves}
+use Rattle.bits.specs.Laws.{ones-set, bit-cases, bit-lt, bit-none, bit-or, clash, flip-same, flip-other, ones-clear, xor-zero-eq, same-or, flip-moves}
 use Rattle.cube_math.specs.Paths.{off-on, bit-not-one}
-use Rattle.cube_math.specs.Masks.{some-bit, mask-ind, ones-mono, ones-add, less, bit-less, bit-or}
+use Rattle.cube_math.specs.Masks.{some-bit, mask-ind, ones-mono, ones-add, less, bit-less}
 use Rattle.cube_math.specs.Single.{differs-bit}
 
 -- the bits after one is cleared

@@ -7,9 +7,9 @@ use native.Mathlib.Omega.{arith}
 use lib.Bits.{bitXor, bitAnd, xor-self}
 use lib.Count.{ones}
 use Rattle.bits.specs.Bit.{bit, flip}
-use Rattle.bits.specs.Laws.{bit-cases, bit-lt, bit-none, bit-pow-same, bit-pow-other, clash, flip-same, flip-other, ones-clear, same-all-bits, same-or, flip-turns}
+use Rattle.bits.specs.Laws.{bit-cases, bit-lt, bit-and, bit-none, bit-pow-same, bit-pow-other, clash, flip-same, flip-other, ones-clear, same-all-bits, same-or, flip-turns}
 use Rattle.cube_math.specs.Paths.{bit-not-one, off-on}
-use Rattle.cube_math.specs.Masks.{less, bit-less, bit-and}
+use Rattle.cube_math.specs.Masks.{less, bit-less}
 use Rattle.cube_math.specs.Single.{bit-differs, differs-bit}
 use Rattle.cube_math.specs.Choose.{Chosen, less-or, ones-less, ones-some}
 use Rattle.cube_math.specs.Request.{Request, Settled, without-flip, far-request}

@@ -9,9 +9,9 @@ use lib.Bits.{bitXor, bitAnd}
 use lib.Count.{ones}
 use lib.ListN.{length}
 use Rattle.bits.specs.Bit.{bit, flip, Lowest}
-use Rattle.bits.specs.Laws.{bit-lt, clash, flip-same, flip-other, xor-zero-eq, same-or}
+use Rattle.bits.specs.Laws.{bit-lt, bit-and, clash, flip-same, flip-other, xor-zero-eq, same-or}
 use Rattle.cube_math.specs.Doors.{Way}
-use Rattle.cube_math.specs.Masks.{less, bit-and}
+use Rattle.cube_math.specs.Masks.{less}
 use Rattle.cube_math.specs.Choose.{less-on}
 use Rattle.cube_math.specs.Single.{rank, rank-less, rank-le, Tail, tail-none, tail-more, tail-way, bit-differs, differs-bit, inside-flip}
 use Rattle.cube_rows.specs.Grid.{hops, Only, only-none, Sets}

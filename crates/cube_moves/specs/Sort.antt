@@ -6,8 +6,8 @@ use mathlib.Core.List.{List, [], _∷_}
 use native.Mathlib.Omega.{arith}
 use lib.Bits.{bitXor, bitAnd, bitOr, xor-comm, xor-zero-r, xor-self}
 use Rattle.bits.specs.Bit.{bit, flip}
-use Rattle.bits.specs.Laws.{bit-cases, bit-lt, bit-none, bit-pow-same, bit-pow-other, clash, xor-assoc, same-all-bits, same-or}
-use Rattle.cube_math.specs.Masks.{less, bit-less, bit-and}
+use Rattle.bits.specs.Laws.{bit-cases, bit-lt, bit-and, bit-none, bit-pow-same, bit-pow-other, clash, xor-assoc, same-all-bits, same-or}
+use Rattle.cube_math.specs.Masks.{less, bit-less}
 use Rattle.cube_math.specs.Choose.{less-on}
 use Rattle.cube_math.specs.Loops.{Plus, plus-or, Sorting, sort-skip, sort-take}
 

@@ -7,7 +7,7 @@ use Rattle.answers.specs.Pairs.{pair-sound}
 use Rattle.answers.specs.declared.Checked.{Checked}
 use Rattle.answers.specs.declared.Checked.the-variants as checked
 use Rattle.two_parts.specs.Two.{known, relays, slots, blocks}
-use Rattle.two_parts.specs.Needs.{Fine, Placed}
+use Rattle.two_parts.specs.Needs.{Fine}
 use Rattle.two.specs.Next.{hops}
 use Rattle.two.specs.Says.{pairAgainst}
 
@@ -16,26 +16,16 @@ fine m s t f e =
     let p = pair-sound (known m) (relays m) s t (sym e ∙ ap against f) in
     record { order = p .0; source = p .1; target = p .2 }
 
--- the bits in which two blocks differ, and there are such
-pub record Apart (m x : ℕ) : Type 0 where
+-- the bits in which two blocks differ
+pub record Differ (m x : ℕ) : Type 0 where
   pub order : m ≤ 5
   pub below : x < blocks m
-  pub some : x ≡ 0 → ⊥
 
--- two slots, two blocks, and both
+-- two slots
 pub record Slots (m p q : ℕ) : Type 0 where
   pub order : m ≤ 5
   pub from : p < slots m
   pub to : q < slots m
-
-pub record Between (m b c : ℕ) : Type 0 where
-  pub order : m ≤ 5
-  pub from : b < blocks m
-  pub to : c < blocks m
-
-pub record Pair (m b p c q : ℕ) : Type 0 where
-  pub from : Placed m b p
-  pub to : Placed m c q
 
 -- n is the hops from s to t, and there are more places than that
 pub record Room (m s t n places : ℕ) : Type 0 where

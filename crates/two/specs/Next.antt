@@ -1,19 +1,28 @@
--- The next hop and the plain route. While blocks differ, the slot walks to the place of a differing block bit (`crossing`) and crosses
--- there; when they agree, it walks to the target's. A slot walks by its lowest bit that differs.
+-- The next hop and the plain route. While blocks differ, the slot walks to a differing block bit, the first in the reflected Gray order
+-- (`crossing`), and crosses there; when they agree, it walks to the target's. A slot walks by its lowest bit that differs.
 use Prim.Native.Nat.{ℕ, _^_}
+use mathlib.Core.Bool.{Bool}
 use mathlib.Core.List.{List}
 use lib.Bits.{bitXor}
 use lib.Count.{trailingZeros}
 use lib.Dec.{eqb}
-use Rattle.bits.specs.Bit.{flip}
-use Rattle.scan.specs.Scan.{pick}
+use Rattle.bits.specs.Bit.{bit, flip}
+use Rattle.bits.specs.Gray.{gray}
+use Rattle.scan.specs.Scan.{pick, seek}
 use Rattle.paths.specs.Mesh.{width}
 use Rattle.paths.specs.Walk as walk
 use Rattle.two_parts.specs.Two.{blockOf, slotOf, relay, two}
 
--- of the bits in which two blocks differ, the one to correct first: the order of block bits is this definition's alone
+-- whether the bit at place i of the Gray order is one of x, the bits in which two blocks differ
+unfoldable pub differing : (x i : ℕ) → Bool
+differing x i = eqb (bit (gray i) x) 1
+
+-- the place of the first of them, and the bit, which is to be corrected first: the order of block bits is in these two definitions alone
+unfoldable pub place : (m x : ℕ) → ℕ
+place m x = walk.number (seek (differing x) 0 (2 ^ m))
+
 unfoldable pub crossing : (m x : ℕ) → ℕ
-crossing m x = trailingZeros (2 ^ m) x
+crossing m x = gray (place m x)
 
 -- the slot after p on the way to q in one block
 unfoldable pub toward : (m p q : ℕ) → ℕ

@@ -1,11 +1,12 @@
 // The next hop.
 ghost use mathlib.Core.Path.{_≡_};
-ghost use Prim.Native.Nat.{_<_};
 ghost use Rattle.answers.specs.Told.{answerTold};
 ghost use Rattle.two_parts.specs.Two as specs;
 ghost use Rattle.two.specs.Next as next;
+ghost use Rattle.two.specs.Ordered as order;
+ghost use Rattle.two.specs.Turns as turns;
 ghost use Rattle.two.specs.Says.{nextTold};
-ghost use Rattle.two.specs.Needs.{Apart, Slots, Between, Pair};
+ghost use Rattle.two.specs.Needs.{Differ, Slots};
 ghost use Rattle.two_parts.specs.Needs.{Fine};
 use crate::parts;
 use answers::Answer;
@@ -14,57 +15,72 @@ use two_parts::Block;
 use two_parts::Order;
 use two_parts::Slot;
 
-// Of the bits in which two blocks differ, the one to correct first: the slot at which to cross. The order of block bits is here alone.
+// The 32 low bits of x in the Gray order: bit i of what comes out is bit i xor (i div 2) of x. That place is i with bit 1 added to bit 0, then 2 to 1, 3 to 2 and
+// 4 to 3: each is a swap of the places that have the upper of the two bits, the last one first. `ordered(8)` is 4.
+fn ordered(x: u64) -> u64
+    ensures { λ r. ⌜ r ≡ order.ordered x ⌝ }
+{
+    let by_four = bits::swap(x, 0x00ff0000, 8);
+    let by_three = bits::swap(by_four, 0x0f000f00, 4);
+    let by_two = bits::swap(by_three, 0x30303030, 2);
+    bits::swap(by_two, 0x44444444, 1)
+}
+
+// Of the bits in which two blocks differ, the one to correct first: the slot at which to cross. The order of block bits is here alone. Where they
+// differ in none, what is told means nothing.
 fn crossing(order: Order, x: u64) -> Slot
-    requires { ⌜ Apart (order .0) x ⌝ }
-    ensures { λ r. ⌜ r .0 ≡ next.crossing (order .0) x ⌝ }
+    requires { ⌜ Differ (order .0) x ⌝ }
+    ensures { λ r. ⌜ ((x ≡ 0 → ⊥) → r .0 ≡ next.crossing (order .0) x) ⌝ }
 {
-    Slot(bits::lowest(x) as u64)
+    Slot(bits::gray(bits::first(ordered(x)) as u64))
 }
 
-// The slot after p on the way to q in one block: the lowest bit that differs is corrected.
-fn toward(order: Order, p: Slot, q: Slot) -> Slot
-    requires { ⌜ Slots (order .0) (p .0) (q .0) ⌝ }
-    ensures { λ r. ⌜ r .0 ≡ next.toward (order .0) (p .0) (q .0) ⌝ }
+// The slot to walk to, where the blocks differ in the bits of `apart` and the target's slot is q.
+fn heading(order: Order, apart: Block, q: Slot) -> Slot
+    requires { ⌜ Differ (order .0) (apart .0) ⌝ }
+    ensures { λ r. ⌜ r .0 ≡ turns.aim (order .0) (apart .0) (q .0) ⌝ }
 {
-    if p.0 == q.0 {
-        return p;
-    }
-    Slot(bits::flip(p.0, bits::lowest(p.0 ^ q.0)))
-}
-
-// The slot to walk to, from block b towards block c, slot q.
-fn heading(order: Order, b: Block, c: Block, q: Slot) -> Slot
-    requires { ⌜ Between (order .0) (b .0) (c .0) ⌝ }
-    ensures { λ r. ⌜ r .0 ≡ next.heading (order .0) (b .0) (c .0) (q .0) ⌝ }
-{
-    if b.0 == c.0 {
+    let far = crossing(order, apart.0);
+    if apart.0 == 0 {
         return q;
     }
-    crossing(order, b.0 ^ c.0)
+    far
 }
 
-// The block after block b, slot p on the way to block c, where the slot walks to h.
-fn crossed(b: Block, p: Slot, c: Block, h: Slot) -> Block
-    requires { ⌜ p .0 < 32 ⌝ }
-    ensures { λ r. ⌜ r .0 ≡ next.crossed (b .0) (p .0) (c .0) (h .0) ⌝ }
+// The bit of a relay's number that changes where its slot p is the one to walk to: the block's bit p, as a number; 0 where the blocks agree.
+fn across(order: Order, apart: Block, p: Slot) -> u64
+    requires { ⌜ Slots (order .0) (p .0) (p .0) ⌝ }
+    ensures { λ r. ⌜ r ≡ turns.across (order .0) (apart .0) (p .0) ⌝ }
 {
-    if b.0 == c.0 {
-        return b;
+    if apart.0 == 0 {
+        return 0;
     }
+    two_parts::slots_in(order) << p.0
+}
+
+// The bit of a relay's number that changes on the way from slot p to slot h: the lowest that differs, as a number; 0 where they are the same.
+fn along(order: Order, p: Slot, h: Slot) -> u64
+    requires { ⌜ Slots (order .0) (p .0) (h .0) ⌝ }
+    ensures { λ r. ⌜ r ≡ turns.along (order .0) (p .0) (h .0) ⌝ }
+{
     if p.0 == h.0 {
-        return Block(bits::flip(b.0, p.0 as u32));
+        return 0;
     }
-    b
+    bits::power(bits::lowest(p.0 ^ h.0))
 }
 
-// The number of the relay after block b, slot p on the way to block c, slot q.
-pub fn step(order: Order, b: Block, p: Slot, c: Block, q: Slot) -> u64
-    requires { ⌜ Pair (order .0) (b .0) (p .0) (c .0) (q .0) ⌝ }
-    ensures { λ r. ⌜ r ≡ next.step (order .0) (b .0) (p .0) (c .0) (q .0) ⌝ }
+// The bit of a relay's number that changes at the next hop, from slot p towards slot h. Both bits are at hand before one is chosen: a choice between values is
+// no branch, which a relay's frames would have guessed wrong half of the time.
+fn change(order: Order, apart: Block, p: Slot, h: Slot) -> u64
+    requires { ⌜ Slots (order .0) (p .0) (h .0) ⌝ }
+    ensures { λ r. ⌜ r ≡ turns.change (order .0) (apart .0) (p .0) (h .0) ⌝ }
 {
-    let h = heading(order, b, c, q);
-    two_parts::relay_of(order, crossed(b, p, c, h), toward(order, p, h))
+    let over = across(order, apart, p);
+    let low = along(order, p, h);
+    if p.0 == h.0 {
+        return over;
+    }
+    low
 }
 
 // The relay after u on the way to t.
@@ -72,13 +88,11 @@ pub fn hop(order: Order, u: u64, t: u64) -> u64
     requires { ⌜ Fine (order .0) u t ⌝ }
     ensures { λ r. ⌜ r ≡ next.next (order .0) u t ⌝ }
 {
-    step(
-        order,
-        two_parts::block_of(order, u),
-        two_parts::slot_of(order, u),
-        two_parts::block_of(order, t),
-        two_parts::slot_of(order, t),
-    )
+    let slots = two_parts::slots_in(order);
+    let apart = Block((u ^ t) / slots);
+    let p = Slot(u % slots);
+    let h = heading(order, apart, Slot(t % slots));
+    u ^ change(order, apart, p, h)
 }
 
 // The relay after source on the way to target, and target itself where they are the same: `next_hop(Order(2), 0, 23)` is 4.

@@ -10,7 +10,7 @@ use Rattle.two.specs.Next.{next, hops}
 use Rattle.two_parts.specs.Parts.{known-bounds, longest-few}
 use Rattle.two_parts.specs.Needs.{Fine}
 use Rattle.paths.specs.Ends.{not-yet, now-there}
-use Rattle.two.specs.Steps.{node-below, hops-arrive, hops-bound}
+use Rattle.two.specs.Steps.{node-below, hops-arrive, hops-bound, most-longest}
 use Rattle.two.proofs.routes.hops.Statement.{statement}
 use Rattle.two.proofs.routes.hops.Tie as tie
 
@@ -47,7 +47,7 @@ add-k : tie.Need-add-k Inv-loop μ-loop
 add-k c =
     let s = c .before .before .before in
     let m = s .args .order .0 in
-    omega (arith, c .before .before .loop .inv .bound, hops-bound m (s .args .t) (s .pre .target) (s .args .s) (s .pre .source), longest-few m (known-bounds m (s .pre .order) .1))
+    omega (arith, c .before .before .loop .inv .bound, hops-bound m (s .args .t) (s .pre .target) (s .args .s) (s .pre .source), most-longest m, longest-few m (known-bounds m (s .pre .order) .1))
 
 loop-less : tie.Need-loop-less Inv-loop μ-loop
 loop-less c = omega (arith, left (c .before .before .before .pre) (c .before .before .loop .inv) (c .before .loop-test .taken))

@@ -1,6 +1,4 @@
 -- `two::steps::next_hop` meets its contract. Assumes nothing.
-use mathlib.Core.Path.{_∙_}
-use mathlib.Core.Bool.{false}
 use borrow.Author.Needs.{needs}
 use Rattle.answers.specs.Pairs.{told-refused, told-fine}
 use Rattle.two.specs.Next.{next}
