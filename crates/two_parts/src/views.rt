@@ -10,14 +10,16 @@ use crate::parts::Slot;
 use crate::sizes;
 use crate::sizes::Order;
 
-// x with its neighbouring groups of 2^j bits exchanged where bit j of the slot is set; the mask has the lower group of each two.
+// x with its neighbouring groups of 2^j bits exchanged where bit j of the slot is set; the mask has the lower group of each two. `exchanged(6, Slot(1), 0, 0x55555555)`
+// is 9. The exchange is at hand before it is chosen: a choice between values is no branch, which slots at random would have guessed wrong half of the time.
 fn exchanged(x: u64, b: Slot, j: u32, mask: u64) -> u64
     requires { ⌜ j < 5 ⌝ }
     requires { ⌜ mask < 2 ^ 32 ⌝ }
     ensures { λ r. ⌜ r ≡ groups.exchanged mask j (b .0) x ⌝ }
 {
+    let turned = bits::swap(x, mask, bits::power(j) as u32);
     if bits::bit(b.0, j) {
-        return bits::swap(x, mask, bits::power(j) as u32);
+        return turned;
     }
     x
 }
