@@ -1,6 +1,6 @@
 -- Laws of bits that the two-level mesh needs beside those of the crate `bits`. Assumes nothing.
 --
--- `gather-bit`, `gather-lt`: a number made of its bits. `shuffled-xor`, `shuffled-pow`, `shuffled-same`: moving each bit from p to
+-- `bit-high`, `bit-mod`: bits from n up, none and dropped. `gather-bit`, `gather-lt`: a number made of its bits. `shuffled-xor`, `shuffled-pow`, `shuffled-same`: moving each bit from p to
 -- p xor b keeps the xor of two numbers, takes 2 ^ p to 2 ^ (p xor b), and leaves different numbers different.
 use Prim.Native.Nat.{ℕ, zero, suc, _+_, _-_, _*_, _/_, _%_, _^_, _≤_, _<_}
 use mathlib.Core.Path.{_≡_, refl, sym, ap, ap₂, _∙_}

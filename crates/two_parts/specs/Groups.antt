@@ -1,8 +1,8 @@
--- The moved block by swaps: where bit j of the slot is set, neighbouring groups of 2 ^ j bits are exchanged, under the mask that has the lower of each two. An
--- exchange moves each of 32 bits from place p to place p xor 2 ^ j (`exchanged-bit`), so the five together from p to p xor b (`moved-bit`), and the bits from
--- 2 ^ m up are dropped (`moved-seen`). Assumes nothing.
+-- The seen block by swaps: where bit j of the slot b is set, neighbouring groups of 2 ^ j bits are exchanged, under the mask that has the lower of each two. A
+-- swap moves each of 32 bits from place p to place p xor 2 ^ j (`swapped-across`, `exchanged-bit`), so five of them from p to p xor b (`moved-bit`); with the
+-- bits from 2 ^ m up dropped that is the seen block, of any number (`moved-seen`). Assumes nothing.
 use Prim.Native.Nat.{ℕ, zero, suc, _+_, _*_, _/_, _%_, _^_, _≤_, _<_}
-use mathlib.Core.Path.{_≡_, refl, sym, ap, ap₂, _∙_}
+use mathlib.Core.Path.{_≡_, refl, sym, ap, _∙_}
 use mathlib.Core.Bool.{Bool, true, false, _&&_, not}
 use mathlib.Core.Logic.{_⊎_, inl, inr, ⊎-elim}
 use native.Mathlib.Nat.{mod-lt, zero-mul, one-mul, mod-eq-of-lt, lt-of-lt-of-le}
@@ -66,7 +66,7 @@ module _ (j x i : ℕ) (hj : j < 5) (hi : i < 32) where
       let group : untold j ≡ false = any-false untold 0 5 all-told j (omega arith) (omega arith) in
       ⊎-elim (λ t. t) (λ f. absurd (true-false (ap not f) (any-false (λ k. not (told j k)) 0 32 group i (omega arith) (omega arith)))) (true-or (told j i))
 
-  swapped-across : bit i (swapped (mask j) (2 ^ j) x) ≡ bit (bitXor i (2 ^ j)) x
+  pub swapped-across : bit i (swapped (mask j) (2 ^ j) x) ≡ bit (bitXor i (2 ^ j)) x
   unfolding told
   swapped-across =
       let (a, e) = both-true (leb (bit i (mask j) + bit i (mask j * 2 ^ (2 ^ j))) 1) _ here in

@@ -1,6 +1,6 @@
 -- `two_parts::views::exchanged` meets its contract. Assumes nothing.
 use Prim.Native.Nat.{ℕ, _*_, _^_, _<_}
-use mathlib.Core.Path.{_≡_, sym, ap, _∙_, subst}
+use mathlib.Core.Path.{sym, ap, _∙_, subst}
 use mathlib.Core.Bool.{Bool}
 use native.Mathlib.Omega.{arith}
 use Rattle.bits.specs.Swaps.{swapped}
