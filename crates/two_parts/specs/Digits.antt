@@ -1,15 +1,15 @@
 -- Laws of bits that the two-level mesh needs beside those of the crate `bits`. Assumes nothing.
 --
--- `gather-bit`, `gather-lt`: a number made of its bits. `shuffled-xor`, `shuffled-pow`, `shuffled-same`: moving each bit from p to
+-- `bit-high`, `bit-mod`: bits from n up, none and dropped. `gather-bit`, `gather-lt`: a number made of its bits. `shuffled-xor`, `shuffled-pow`, `shuffled-same`: moving each bit from p to
 -- p xor b keeps the xor of two numbers, takes 2 ^ p to 2 ^ (p xor b), and leaves different numbers different.
 use Prim.Native.Nat.{ℕ, zero, suc, _+_, _-_, _*_, _/_, _%_, _^_, _≤_, _<_}
 use mathlib.Core.Path.{_≡_, refl, sym, ap, ap₂, _∙_}
 use mathlib.Core.Logic.{_⊎_, inl, inr, ⊎-elim}
-use native.Mathlib.Nat.{pow-suc, zero-mul, one-mul, lt-of-lt-of-le}
+use native.Mathlib.Nat.{pow-suc, zero-mul, one-mul}
 use native.Mathlib.Omega.{arith}
 use native.Mathlib.Decide.{ℕ-discrete}
 use lib.Arith.{lt-one, digits-div}
-use lib.Pow.{pow-pos, pow-lt, pow-mono}
+use lib.Pow.{pow-pos, pow-lt, split}
 use lib.Bits.{bitXor, differ, xor-comm, xor-lt}
 use Rattle.bits.specs.Bit.{bit, flip, Lowest}
 use Rattle.bits.specs.Laws.{bit-lt, bit-suc, bit-none, bit-xor, bit-pow-same, bit-pow-other, clash, lt-or, lt-or-le, same-bits, xor-assoc, xor-back}
@@ -60,12 +60,7 @@ gather-more : (f : ℕ → ℕ) (n : ℕ) → gather f (suc n) ≡ f n * 2 ^ n +
 unfolding gather
 gather-more f n = omega arith
 
--- the code's n + 1
-pub gather-next : (f : ℕ → ℕ) (n : ℕ) → gather f (n + 1) ≡ gather f n + f n * 2 ^ n
-unfolding gather
-gather-next f n = rw (native.Mathlib.Numerals.add-one n)
-
-pub gather-none : (f : ℕ → ℕ) → gather f 0 ≡ 0
+gather-none : (f : ℕ → ℕ) → gather f 0 ≡ 0
 unfolding gather
 gather-none f = refl
 
@@ -94,6 +89,10 @@ bit-under (suc n) zero q r l = Rattle.bits.specs.Laws.bit-zero (q * 2 ^ suc n +
 bit-under (suc n) (suc i) q r l =
     bit-suc i (q * 2 ^ suc n + r) ∙ ap (bit i) (lib.Bits.block-half q n r) ∙ bit-under n i q (r / 2) (omega arith) ∙ sym (bit-suc i r)
 
+-- the bits under n stay where those from n up are dropped
+pub bit-mod : (n i x : ℕ) → i < n → bit i (x % 2 ^ n) ≡ bit i x
+bit-mod n i x l = sym (bit-under n i (x / 2 ^ n) (x % 2 ^ n) l) ∙ ap (bit i) (split x n)
+
 pub gather-bit : (f : ℕ → ℕ) (n i : ℕ) → ((j : ℕ) → f j < 2) → i < n → bit i (gather f n) ≡ f i
 gather-bit f zero i h l = absurd (omega arith)
 gather-bit f (suc n) i h l = ap (bit i) (gather-more f n) ∙ go (ℕ-discrete i n) (λ g. gather-bit f n i h g)
@@ -101,13 +100,6 @@ gather-bit f (suc n) i h l = ap (bit i) (gather-more f n) ∙ go (ℕ-discrete i
     go : Dec (i ≡ n) → (i < n → bit i (gather f n) ≡ f i) → bit i (f n * 2 ^ n + gather f n) ≡ f i
     go (yes e) rest = rw e (bit-top n (f n) (gather f n) (h n) (gather-lt f n h))
     go (no ne) rest = bit-under n i (f n) (gather f n) (omega arith) ∙ rest (omega arith)
-
--- a bit at its place, and one more, fit a word
-pub placed-fits : (j x i : ℕ) → i < 64 → bit j x * 2 ^ i < 2 ^ 64
-placed-fits j x i h = ⊎-elim (λ e. rw e (pow-pos 64)) (λ e. rw e (pow-lt h)) (digit (bit j x) i (bit-lt j x))
-
-pub gather-fits : (f : ℕ → ℕ) (i : ℕ) → ((j : ℕ) → f j < 2) → i < 64 → gather f i + f i * 2 ^ i < 2 ^ 64
-gather-fits f i h l = rw (← gather-next f i) (lt-of-lt-of-le (gather-lt f (i + 1) h) (pow-mono {j = 64} (omega arith)))
 
 -- ---- bits moved from p to p xor b
 

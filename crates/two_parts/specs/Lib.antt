@@ -3,6 +3,7 @@ pub mod Two
 pub mod Seen
 pub mod Digits
 pub mod Parts
+pub mod Groups
 pub mod Links
 pub mod Near
 pub mod Moves
