@@ -18,11 +18,12 @@ pub fn bundle_survivors(
     places: &[u64],
     counts: &[u64],
     stopped: &[u64],
+    cuts: &[u64],
     ends: &mut [u64],
     hops: &mut [u64],
     wholes: &mut [u64],
 ) -> Tally
-    ensures { λ r. ⌜ Survived (bundleAsked (kindOf (mesh .kind)) (mesh .size) source target) (now (places .entry)) (now (counts .entry)) (failed (now (stopped .entry))) (now (ends .entry)) (now (hops .entry)) (now (wholes .entry)) r (now (ends .exit)) (now (hops .exit)) (now (wholes .exit)) ⌝ }
+    ensures { λ r. ⌜ Survived (bundleAsked (kindOf (mesh .kind)) (mesh .size) source target) (now (places .entry)) (now (counts .entry)) (failed (now (stopped .entry)) (now (cuts .entry))) (now (ends .entry)) (now (hops .entry)) (now (wholes .entry)) r (now (ends .exit)) (now (hops .exit)) (now (wholes .exit)) ⌝ }
 {
     let k = columns::bundle_paths(mesh);
     let lacking = crate::few(k, ends.len(), hops.len(), wholes.len());
@@ -37,6 +38,7 @@ pub fn bundle_survivors(
                 places,
                 counts,
                 stopped,
+                cuts,
                 ends,
                 hops,
                 wholes,

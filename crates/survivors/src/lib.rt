@@ -90,18 +90,19 @@ pub fn survivors(
     places: &[u64],
     counts: &[u64],
     stopped: &[u64],
+    cuts: &[u64],
     ends: &mut [u64],
     hops: &mut [u64],
     wholes: &mut [u64],
 ) -> Tally
-    ensures { λ r. ⌜ promise.Survived (fanAsked (kindOf (mesh .kind)) (mesh .size) source (now (targets .entry))) (now (places .entry)) (now (counts .entry)) (failed (now (stopped .entry))) (now (ends .entry)) (now (hops .entry)) (now (wholes .entry)) r (now (ends .exit)) (now (hops .exit)) (now (wholes .exit)) ⌝ }
+    ensures { λ r. ⌜ promise.Survived (fanAsked (kindOf (mesh .kind)) (mesh .size) source (now (targets .entry))) (now (places .entry)) (now (counts .entry)) (failed (now (stopped .entry)) (now (cuts .entry))) (now (ends .entry)) (now (hops .entry)) (now (wholes .entry)) r (now (ends .exit)) (now (hops .exit)) (now (wholes .exit)) ⌝ }
 {
     let lacking = few(targets.len(), ends.len(), hops.len(), wholes.len());
     let verdict = judge::judge_with(mesh, source, targets, places, counts, lacking);
     match verdict {
         Verdict::Fan => {
             let w = mesh::places_in(mesh) as usize;
-            Tally::Whole(columns::fill(w, targets, places, counts, stopped, ends, hops, wholes))
+            Tally::Whole(columns::fill(w, targets, places, counts, stopped, cuts, ends, hops, wholes))
         }
         Verdict::Found(f) => Tally::Found(f),
         Verdict::Refused(why) => Tally::Refused(why),
