@@ -47,11 +47,12 @@ pub fn survivors<'a, 'b>(
     places: &'b [u64],
     counts: &'b [u64],
     stopped: &'b [u64],
+    cuts: &'b [u64],
     out: &'a mut [Entry],
 ) -> Tally
-    ensures { λ r. ⌜ Listed (fanAsked (kindOf (mesh .kind)) (mesh .size) source (now (targets .entry))) (now (places .entry)) (now (counts .entry)) (failed (now (stopped .entry))) (now (out .entry)) r (now (out .exit)) ⌝ }
+    ensures { λ r. ⌜ Listed (fanAsked (kindOf (mesh .kind)) (mesh .size) source (now (targets .entry))) (now (places .entry)) (now (counts .entry)) (failed (now (stopped .entry)) (now (cuts .entry))) (now (out .entry)) r (now (out .exit)) ⌝ }
 {
-    let g = gathered::gather(mesh, source, targets, places, counts, stopped, out.len());
+    let g = gathered::gather(mesh, source, targets, places, counts, stopped, cuts, out.len());
     store(g, out)
 }
 
@@ -66,10 +67,11 @@ pub fn bundle_survivors<'a, 'b>(
     places: &'b [u64],
     counts: &'b [u64],
     stopped: &'b [u64],
+    cuts: &'b [u64],
     out: &'a mut [Entry],
 ) -> Tally
-    ensures { λ r. ⌜ Listed (bundleAsked (kindOf (mesh .kind)) (mesh .size) source target) (now (places .entry)) (now (counts .entry)) (failed (now (stopped .entry))) (now (out .entry)) r (now (out .exit)) ⌝ }
+    ensures { λ r. ⌜ Listed (bundleAsked (kindOf (mesh .kind)) (mesh .size) source target) (now (places .entry)) (now (counts .entry)) (failed (now (stopped .entry)) (now (cuts .entry))) (now (out .entry)) r (now (out .exit)) ⌝ }
 {
-    let g = gathered::gather_bundle(mesh, source, target, places, counts, stopped, out.len());
+    let g = gathered::gather_bundle(mesh, source, target, places, counts, stopped, cuts, out.len());
     store(g, out)
 }
