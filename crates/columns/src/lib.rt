@@ -96,14 +96,7 @@ fn cut_on(w: usize, places: &[u64], counts: &[u64], cuts: &[u64], i: usize) -> b
 }
 
 // Whether nothing on path i has failed.
-fn whole(
-    w: usize,
-    places: &[u64],
-    counts: &[u64],
-    stopped: &[u64],
-    cuts: &[u64],
-    i: usize,
-) -> bool
+fn whole(w: usize, places: &[u64], counts: &[u64], stopped: &[u64], cuts: &[u64], i: usize) -> bool
     requires { ⌜ Held w (length (now places)) (now counts) i ⌝ }
     ensures { λ r. ⌜ r ≡ specs.whole w (now (places .entry)) (now (counts .entry)) (failed (now (stopped .entry)) (now (cuts .entry))) i ⌝ }
 {

@@ -52,7 +52,16 @@ pub fn survivors<'a, 'b>(
 ) -> Tally
     ensures { λ r. ⌜ Listed (fanAsked (kindOf (mesh .kind)) (mesh .size) source (now (targets .entry))) (now (places .entry)) (now (counts .entry)) (failed (now (stopped .entry)) (now (cuts .entry))) (now (out .entry)) r (now (out .exit)) ⌝ }
 {
-    let g = gathered::gather(mesh, source, targets, places, counts, stopped, cuts, out.len());
+    let g = gathered::gather(
+        mesh,
+        source,
+        targets,
+        places,
+        counts,
+        stopped,
+        cuts,
+        out.len(),
+    );
     store(g, out)
 }
 
@@ -72,6 +81,15 @@ pub fn bundle_survivors<'a, 'b>(
 ) -> Tally
     ensures { λ r. ⌜ Listed (bundleAsked (kindOf (mesh .kind)) (mesh .size) source target) (now (places .entry)) (now (counts .entry)) (failed (now (stopped .entry)) (now (cuts .entry))) (now (out .entry)) r (now (out .exit)) ⌝ }
 {
-    let g = gathered::gather_bundle(mesh, source, target, places, counts, stopped, cuts, out.len());
+    let g = gathered::gather_bundle(
+        mesh,
+        source,
+        target,
+        places,
+        counts,
+        stopped,
+        cuts,
+        out.len(),
+    );
     store(g, out)
 }

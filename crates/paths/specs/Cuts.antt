@@ -1,17 +1,17 @@
 -- What a pair of a list of cuts says of two relays (`pair-two`), and how cut links are counted: two links have the same number only where they are the same
 -- (`numbered-two`), a cut that is a link is among those that count (`cut-counts`), and one that stands there already, in either order, counts no more
--- (`cut-again`); so with a relay that has stopped (`stop-counts`). Assumes nothing.
-use Prim.Native.Nat.{ℕ, suc, _+_, _*_, _<_, min, max}
+-- (`cut-again`); so with a relay that has stopped (`stop-counts`), and no more count than are listed (`fewer-count`). Assumes nothing.
+use Prim.Native.Nat.{ℕ, suc, _+_, _*_, _≤_, _<_, min, max}
 use mathlib.Core.Path.{_≡_, refl, sym, ap, ap₂, _∙_}
 use mathlib.Core.Bool.{Bool, true, false, _&&_, _||_}
-use mathlib.Core.Logic.{_⊎_, inl, inr, ⊎-elim, _≢_}
+use mathlib.Core.Logic.{_⊎_, inl, inr, ⊎-elim}
 use mathlib.Core.List.{List, [], _∷_}
 use native.Mathlib.Omega.{arith}
 use native.Mathlib.Decide.{ℕ-discrete, decLt}
 use lib.Dec.{eqb, ltb}
 use borrow.Author.Tests.{eqb-true, eq-eqb, ltb-true, lt-ltb}
 use Rattle.scan.specs.Scan.{pick, has, different}
-use Rattle.scan.specs.Laws.{true-or, true-false, both-true, either-true, first-true, second-true, has-cons, has-first, has-rest, has-none}
+use Rattle.scan.specs.Laws.{true-or, true-false, not-true, both-true, either-true, first-true, second-true, has-cons, has-first, has-rest, has-none}
 use Rattle.paths.specs.Mesh.{Mesh}
 use Rattle.paths.specs.Places.{row-below}
 use Rattle.paths.specs.Whole.{pair, cut, relaysOf, link, numbered, linksOf}
@@ -60,7 +60,7 @@ module _ (m : Mesh) where
       let r = link-true a b e in
       true-link b a (r .1) (r .0) (⊎-elim (second-true (m .linked b a) (m .linked a b)) (first-true (m .linked b a) (m .linked a b)) (r .2))
 
-  link-two : (a b u v : ℕ) → Two a b u v → link m u v ≡ true → link m a b ≡ true
+  pub link-two : (a b u v : ℕ) → Two a b u v → link m u v ≡ true → link m a b ≡ true
   link-two a b u v (inl z) e = ap₂ (link m) (z .0) (z .1) ∙ e
   link-two a b u v (inr z) e = ap₂ (link m) (z .0) (z .1) ∙ link-back u v e
 
@@ -144,3 +144,16 @@ module _ (m : Mesh) where
       go : (b : Bool) → has (pick b (y ∷ relaysOf m l) (relaysOf m l)) x ≡ true → (has (relaysOf m l) x ≡ true → has l x ≡ true) → has (y ∷ l) x ≡ true
       go true z rest = ⊎-elim (λ q. rw q (has-first x l)) (λ q. has-rest y l x (rest q)) (has-cons y (relaysOf m l) x z)
       go false z rest = has-rest y l x (rest z)
+
+  -- no more count than there are different numbers
+  pub fewer-count : (l : List ℕ) → different (relaysOf m l) ≤ different l
+  unfolding relaysOf different
+  fewer-count [] = omega arith
+  fewer-count (x ∷ l) = go (true-or (ltb x (m .relays))) (true-or (has l x)) (fewer-count l)
+    where
+      go : (ltb x (m .relays) ≡ true) ⊎ (ltb x (m .relays) ≡ false) → (has l x ≡ true) ⊎ (has l x ≡ false) → different (relaysOf m l) ≤ different l
+          → different (pick (ltb x (m .relays)) (x ∷ relaysOf m l) (relaysOf m l)) ≤ pick (has l x) (different l) (suc (different l))
+      go (inl a) (inl b) r = rw a (rw b (rw (stop-counts l x b (ltb-true x (m .relays) a)) r))
+      go (inl a) (inr b) r = rw a (rw b (rw (not-true (λ e. true-false (counts-stopped l x e) b)) (omega arith)))
+      go (inr a) (inl b) r = rw a (rw b r)
+      go (inr a) (inr b) r = rw a (rw b (omega arith))

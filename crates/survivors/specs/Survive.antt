@@ -4,15 +4,14 @@
 -- of a pair change nothing (`members-alike`), nor do pairs that are no link (`no-link-alike`). Assumes nothing.
 use Prim.Native.Nat.{ℕ, _+_, _≤_, _<_}
 use mathlib.Core.Path.{_≡_, refl, sym, ap, ap₂, _∙_}
-use mathlib.Core.Bool.{Bool, true, false, not, _&&_, _||_}
-use mathlib.Core.Logic.{_⊎_, inl, inr, ⊎-elim}
+use mathlib.Core.Bool.{Bool, true, false, not, _||_}
+use mathlib.Core.Logic.{_⊎_, ⊎-elim}
 use mathlib.Core.List.{List, [], _∷_}
 use mathlib.Core.Option.{none}
 use native.Mathlib.Omega.{arith}
 use lib.ListN.{length, length-replicate}
-use borrow.Author.Tests.{lt-ltb}
 use Rattle.scan.specs.Scan.{Spot, found, any, count, has, different}
-use Rattle.scan.specs.Laws.{true-false, not-true, first-true, second-true, has-none, seek-same}
+use Rattle.scan.specs.Laws.{true-false, not-true, has-none, seek-same}
 use Rattle.answers.specs.Order.{first}
 use Rattle.paths.specs.Mesh.{Mesh, width}
 use Rattle.paths.specs.Rules.{Rules, span}
@@ -20,7 +19,7 @@ use Rattle.paths.specs.Fan.{PathBy, Fan, relay, hops}
 use Rattle.paths.specs.Finding.{clean}
 use Rattle.paths.specs.Bundles.{Bundle, bundleRules, clean-bundle}
 use Rattle.paths.specs.Whole.{Failed, failed, failures, cut, stops, severs, broken, whole, relaysOf, link, linksOf}
-use Rattle.paths.specs.Cuts.{Two, pair-two, link-true}
+use Rattle.paths.specs.Cuts.{pair-two, link-two}
 use Rattle.paths.specs.Judged.{clean-fan}
 use Rattle.paths.specs.Survive.{relay-within, link-within, fan-survives, none-survives, bundle-survives, start-stopped, end-stopped}
 use Rattle.mesh.specs.Kinds.{Kind}
@@ -102,15 +101,6 @@ bundle-survivors-all K n s t places counts ends hops₀ wholes r ends₁ hops₁
 
 -- ---- lists that have the same relays and the same links leave the same paths whole
 
--- what is a link in either order is one
-link-same : (m : Mesh) (a b u v : ℕ) → Two a b u v → link m u v ≡ true → link m a b ≡ true
-unfolding link
-link-same m a b u v (inl z) e = ap₂ (link m) (z .0) (z .1) ∙ e
-link-same m a b u v (inr z) e = ap₂ (link m) (z .0) (z .1) ∙ turned
-  where
-    turned : link m v u ≡ true
-    turned = let x = link-true m u v e in ap₂ _&&_ (lt-ltb v (m .relays) (x .1)) (ap₂ _&&_ (lt-ltb u (m .relays) (x .0)) (⊎-elim (second-true (m .linked v u) (m .linked u v)) (first-true (m .linked v u) (m .linked u v)) (x .2)))
-
 -- paths by any rules from s, each to an end of its own
 module _ (r : Rules) (s k : ℕ) (ends : ℕ → ℕ) (places counts : List ℕ) (path : (i : ℕ) → i < k → PathBy r s (ends i) places counts i) (within : s < r .mesh .relays) where
   abbrev at : ℕ → ℕ → ℕ
@@ -133,4 +123,4 @@ module _ (r : Rules) (s k : ℕ) (ends : ℕ → ℕ) (places counts : List ℕ)
   unfolding cut
   no-link-alike stopped cuts a b no-link =
       members-alike (failed stopped (a ∷ b ∷ cuts)) (failed stopped cuts) (λ x h. refl)
-      (λ u v joined. ap (λ (x : Bool). x || cut cuts u v) (not-true (λ e. true-false (link-same (r .mesh) a b u v (pair-two a b u v e) joined) no-link)))
+      (λ u v joined. ap (λ (x : Bool). x || cut cuts u v) (not-true (λ e. true-false (link-two (r .mesh) a b u v (pair-two a b u v e) joined) no-link)))

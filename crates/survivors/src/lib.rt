@@ -102,7 +102,17 @@ pub fn survivors(
     match verdict {
         Verdict::Fan => {
             let w = mesh::places_in(mesh) as usize;
-            Tally::Whole(columns::fill(w, targets, places, counts, stopped, cuts, ends, hops, wholes))
+            Tally::Whole(columns::fill(
+                w,
+                targets,
+                places,
+                counts,
+                stopped,
+                cuts,
+                ends,
+                hops,
+                wholes,
+            ))
         }
         Verdict::Found(f) => Tally::Found(f),
         Verdict::Refused(why) => Tally::Refused(why),
