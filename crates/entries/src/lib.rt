@@ -38,7 +38,7 @@ fn store<'a>(g: Gathered, out: &'a mut [Entry]) -> Tally
 
 // Of a fan from the source to the targets, an entry for each path, in the targets' order, at the front of `out`; the entries after those stay.
 // Answers how many are whole. In the cube of 2 dimensions, of the paths 0, 2, 3 and 0, 1, with relay 2 stopped, the entries are (3, 2, no) and
-// (1, 1, yes), and the answer is 1. Refuses with 1 to 8, or gives the judge's first finding, and then leaves `out` as it was.
+// (1, 1, yes), and the answer is 1. Cuts are as in `survivors::survivors`. Refuses with 1 to 8, or gives the judge's first finding, and then leaves `out` as it was.
 // Proved by hand, so it has no loop and no branch; one lifetime for all that is read keeps that proof short.
 pub fn survivors<'a, 'b>(
     mesh: Mesh,
