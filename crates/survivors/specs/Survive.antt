@@ -1,17 +1,17 @@
 -- Main theorems: of a fan of k paths with f failures, stopped relays and cut links together, the source not stopped, survivors counts at least k less f
 -- (`survivors-survive`); so of a bundle, neither end stopped (`bundle-survivors-survive`). With the source stopped it counts none (`survivors-none`), nor with an end of
 -- a bundle (`bundle-survivors-none`); where nothing has failed all (`survivors-all`, `bundle-survivors-all`). Repeated numbers, numbers that are no relay, and the order
--- of a pair change nothing (`members-alike`), nor do pairs that are no link (`no-link-alike`). Assumes nothing.
+-- of a pair change nothing (`members-alike`), nor do pairs that are no link (`no-link-alike`), nor an empty list of cuts (`nothing-cut`). Assumes nothing.
 use Prim.Native.Nat.{ℕ, _+_, _≤_, _<_}
 use mathlib.Core.Path.{_≡_, refl, sym, ap, ap₂, _∙_}
-use mathlib.Core.Bool.{Bool, true, false, not, _||_}
+use mathlib.Core.Bool.{Bool, true, false, not, _||_, or-false}
 use mathlib.Core.Logic.{_⊎_, ⊎-elim}
 use mathlib.Core.List.{List, [], _∷_}
 use mathlib.Core.Option.{none}
 use native.Mathlib.Omega.{arith}
 use lib.ListN.{length, length-replicate}
 use Rattle.scan.specs.Scan.{Spot, found, any, count, has, different}
-use Rattle.scan.specs.Laws.{true-false, not-true, has-none, seek-same}
+use Rattle.scan.specs.Laws.{true-false, not-true, false-any, has-none, seek-same}
 use Rattle.answers.specs.Order.{first}
 use Rattle.paths.specs.Mesh.{Mesh, width}
 use Rattle.paths.specs.Rules.{Rules, span}
@@ -98,6 +98,14 @@ bundle-survivors-all K n s t places counts ends hops₀ wholes r ends₁ hops₁
     let all = bundle-survivors-survive K n s t places counts (failed [] []) ends hops₀ wholes r ends₁ hops₁ wholes₁ p c e (has-none s) (has-none t) in
     let most = count-most (whole (span (bundleRules (K .mesh n))) places counts (failed [] [])) (K .mesh n .links) in
     omega (arith, all, most, counted-bundle K n s t places counts (failed [] []) ends hops₀ wholes r ends₁ hops₁ wholes₁ p c e .2)
+
+-- where nothing is cut, a path is whole exactly where no relay on it has stopped
+pub nothing-cut : (w : ℕ) (places counts stopped : List ℕ) (i : ℕ)
+    → whole w places counts (failed stopped []) i ≡ not (any (stops w places (failed stopped []) i) 0 (hops counts i + 1))
+unfolding whole broken severs cut
+nothing-cut w places counts stopped i =
+    let halted = any (stops w places (failed stopped []) i) 0 (hops counts i + 1) in
+    ap (λ (x : Bool). not (halted || x)) (false-any (severs w places (failed stopped []) i) 0 (hops counts i) (λ p a b. refl)) ∙ ap not (or-false halted)
 
 -- ---- lists that have the same relays and the same links leave the same paths whole
 
