@@ -1,5 +1,5 @@
-// A handover: in the two-level mesh of order 2, relay 0 hands a region over to relay 63 by every link it has. Relays stop on the way; it prints which copies
-// arrive, and that of each frame one goes on. Built and compared by tests/host.test; by hand
+// A handover: in the two-level mesh of order 2, relay 0 hands a region over to relay 63 by every link it has. A relay stops and a cable is cut on the way; it
+// prints which copies arrive, and that of each frame one goes on. Built and compared by tests/host.test; by hand
 //     ./build && c++ -std=c++17 -Iinclude examples/handover.cpp target/staticlib/libhost.a -o handover && ./handover
 #include "gustparsley.h"
 
@@ -24,7 +24,7 @@ int main() {
     std::printf("\n");
   }
 
-  // Before any relay stops, a frame comes once for each path: the first copy goes on, the others are dropped. Numbers have 16 bits, and wrap.
+  // Before anything fails, a frame comes once for each path: the first copy goes on, the others are dropped. Numbers have 16 bits, and wrap.
   GustRecord record = {};
   for (uint16_t frame : {65534, 65535, 0})
     for (size_t copy = 0; copy < paths; ++copy) {
@@ -33,11 +33,13 @@ int main() {
       if (arrival.number == GUST_FINE) std::printf("frame %u goes on by copy %zu\n", frame, copy);
     }
 
-  // Two relays stop, each on a path of its own: fewer than there are paths, and neither is an end, so that a copy arrives whichever they are.
-  const std::vector<uint64_t> stopped = {places[1], places[width + 1]};
+  // A relay stops, and a link is cut while both its relays run on: together fewer than there are paths, and the relay is no end, so that a copy arrives whichever
+  // they are.
+  const std::vector<uint64_t> stopped = {places[1]}, cuts = {places[width + 1], places[width]};
   std::vector<uint64_t> ends(paths), hops(paths), wholes(paths);
   const GustAnswer left = gust_bundle_survivors(kind, size, source, target, places.data(), places.size(), counts.data(), counts.size(), stopped.data(),
-                                                stopped.size(), ends.data(), ends.size(), hops.data(), hops.size(), wholes.data(), wholes.size());
+                                                stopped.size(), cuts.data(), cuts.size(), ends.data(), ends.size(), hops.data(), hops.size(), wholes.data(),
+                                                wholes.size());
   for (size_t i = 0; i < paths; ++i)
     std::printf("copy %zu, %llu hops: %s\n", i, (unsigned long long)hops[i], wholes[i] ? "arrives" : "is lost");
   std::printf("%llu of %zu copies arrive\n", (unsigned long long)left.value, paths);

@@ -1,5 +1,5 @@
 // Fans and bundles in numbers compared with tests/host_model.hpp: what is planned, what the judge says of it and of what was damaged, and which paths are whole where
-// relays have stopped. Every pair of the small meshes, random and linked pairs of the others. `bundles small` runs a part.
+// relays have stopped and links are cut. Every pair of the small meshes, random and linked pairs of the others. `bundles small` runs a part.
 #include "host_checks.hpp"
 
 #include <cstring>
@@ -66,9 +66,9 @@ void fan(const Mesh &mesh, uint64_t s, const Words &targets, size_t p, size_t c)
 
 // ---- the judge, and who is whole
 
-void judged(const Bundle &b, const Words &stopped, size_t e, size_t h, size_t w) {
+void judged(const Bundle &b, const Failed &fails, size_t e, size_t h, size_t w) {
   const Mesh &m = b.mesh;
-  Lent<uint64_t> places(b.places), counts(b.counts), stops(stopped), ends(e), hops(h), wholes(w);
+  Lent<uint64_t> places(b.places), counts(b.counts), stops(fails.stopped), cuts(fails.cuts), ends(e), hops(h), wholes(w);
   const Told told = m.judge_bundle(b.source, b.target, b.places, b.counts);
   const GustVerdict v = gust_judge_bundle(m.kind, m.size, b.source, b.target, places.data(), places.size(), counts.data(), counts.size());
   numbered("judge of bundles", m, b.source, v.number, told.number);
@@ -77,51 +77,43 @@ void judged(const Bundle &b, const Words &stopped, size_t e, size_t h, size_t w)
 
   const size_t k = m.known() ? m.links() : 0;
   const Told all = m.judge_bundle(b.source, b.target, b.places, b.counts, e < k || h < k || w < k);
-  const std::set<uint64_t> down(stopped.begin(), stopped.end());
   Words whole;
   uint64_t count = 0;
   for (size_t i = 0; !all.number && i < k; ++i) {
-    const uint64_t *path = b.places.data() + i * width(m);
-    const bool ok = std::none_of(path, path + b.counts[i] + 1, [&](uint64_t u) { return down.count(u); });
+    const bool ok = !fails.breaks(b.places.data() + i * width(m), b.counts[i]);
     whole.push_back(ok);
     count += ok;
   }
   const GustAnswer a = gust_bundle_survivors(m.kind, m.size, b.source, b.target, places.data(), places.size(), counts.data(), counts.size(), stops.data(),
-                                             stops.size(), ends.data(), e, hops.data(), h, wholes.data(), w);
+                                             stops.size(), cuts.data(), cuts.size(), ends.data(), e, hops.data(), h, wholes.data(), w);
   answered("survivors of bundles", m, b.source, a, all, count);
-  held("bundles: what is read", places.untouched() && counts.untouched() && stops.untouched(), m, b.source);
+  held("bundles: what is read", places.untouched() && counts.untouched() && stops.untouched() && cuts.untouched(), m, b.source);
   if (all.number) {
     held("survivors of bundles: columns of a refusal", ends.untouched() && hops.untouched() && wholes.untouched(), m, b.source);
     return;
   }
   const Words first(b.counts.begin(), b.counts.begin() + k);
   held("survivors of bundles: columns", ends.holds(Words(k, b.target)) && hops.holds(first) && wholes.holds(whole), m, b.source);
-  if (down.count(b.source) || down.count(b.target))
+  if (fails.has_stopped(b.source) || fails.has_stopped(b.target))
     same("survivors of bundles: an end stopped", m, b.source, a.value, 0);
   else
-    held("survivors of bundles: the clause", k <= a.value + down.size(), m, b.source);
+    held("survivors of bundles: the clause", k <= a.value + fails.count(m), m, b.source);
 }
 
-void judged(const Bundle &b, const Words &stopped) { judged(b, stopped, b.mesh.links(), b.mesh.links(), b.mesh.links()); }
+void judged(const Bundle &b, const Failed &fails) { judged(b, fails, b.mesh.links(), b.mesh.links(), b.mesh.links()); }
 
-// Relays of a bundle, and others, to be stopped.
-Words some(const Bundle &b) {
-  Words stopped;
-  for (uint64_t n = below(b.mesh.links() + 1); n--;) stopped.push_back(below(4) ? b.places[below(b.places.size())] : dice());
-  return stopped;
-}
-
-// A good bundle: with relays stopped, with columns too short, and damaged.
+// A good bundle: with relays stopped and links cut, with columns too short, and damaged.
 void tried(const Bundle &good, int damages) {
   const Mesh &mesh = good.mesh;
   const size_t k = mesh.links(), w = width(mesh);
-  const Words stopped = some(good);
+  const Failed fails = failed(mesh, good.places, good.counts, w);
+  judged(good, {{}, fails.cuts});
   judged(good, {}, k + 2, k + 1, k + 3);
-  judged(good, {good.source});
-  judged(good, {dice(), good.target});
-  judged(good, stopped, k - 1, k, k);
-  judged(good, stopped, k, k - 1, k);
-  judged(good, stopped, k, k, k - 1);
+  judged(good, {{good.source}, fails.cuts});
+  judged(good, {{dice(), good.target}, {}});
+  judged(good, fails, k - 1, k, k);
+  judged(good, fails, k, k - 1, k);
+  judged(good, fails, k, k, k - 1);
   for (int j = 0; j < damages; ++j) {
     Bundle bad = good;
     for (int f = 0; f < 1 + (int)below(2); ++f) {
@@ -144,7 +136,7 @@ void tried(const Bundle &good, int damages) {
       }
       if (bad.counts.size() < k || bad.places.size() < k * w) break;
     }
-    judged(bad, stopped, k, k, k);
+    judged(bad, fails, k, k, k);
   }
 }
 
@@ -154,7 +146,7 @@ void tried(const Bundle &good, int damages) {
 void pair(const Mesh &mesh, uint64_t s, uint64_t t, uint64_t in, int damages) {
   const Bundle b = bundle(mesh, s, t);
   if (b.counts.empty()) return;
-  judged(b, some(b));
+  judged(b, failed(mesh, b.places, b.counts, width(mesh)));
   if (below(in) == 0) tried(b, damages);
 }
 
@@ -249,6 +241,12 @@ void cases() {
   is("order 1, 0 to 1", rows(bundle(ring, 0, 1)) == Words{0, 1, 0, 2, 3, 7, 6, 4, 5, 1});
   const Bundle linked = bundle(two, 27, 59);
   is("order 2, 27 to 59", std::count(linked.counts.begin(), linked.counts.end(), 1) == 1);
+  const Bundle bare = bundle(ring, 0, 1);
+  const Words back{1, 0};
+  Words ends(2), hops(2), wholes(2);
+  const GustAnswer left = gust_bundle_survivors(2, 1, 0, 1, bare.places.data(), bare.places.size(), bare.counts.data(), 2, back.data(), 0, back.data(), 2,
+                                                ends.data(), 2, hops.data(), 2, wholes.data(), 2);
+  is("order 1, 0 to 1, that link cut", left.number == 0 && left.value == 1 && wholes == Words{0, 1});
   bundle(ring, 0, 5, 23, 2);
   bundle(ring, 0, 5, 24, 2);
 

@@ -15,7 +15,7 @@ import partial
 from judge_model import WORD, asked, cases, fan, survivors
 
 PROGRAM = """
-// A case at a time: kind, size and source; targets, places, counts and stopped relays, each with its length before it; how many entries are lent.
+// A case at a time: kind, size and source; targets, places, counts, stopped relays and cuts, each with its length before it; how many entries are lent.
 // A line has what is told, the count, and the entries, all (9, 9, 1) before, as they are afterwards.
 use entries::Entry;
 use mesh::Mesh;
@@ -29,10 +29,10 @@ fn put_entry(e: Entry) {
     put(if e.whole { 1 } else { 0 });
 }
 
-fn tell(mesh: Mesh, source: u64, targets: &[u64], places: &[u64], counts: &[u64], stopped: &[u64], room: usize) {
+fn tell(mesh: Mesh, source: u64, targets: &[u64], places: &[u64], counts: &[u64], stopped: &[u64], cuts: &[u64], room: usize) {
     let mut out = [Entry { target: 9, hops: 9, whole: true }; 40];
     let n = script::least(room, 40);
-    let t = entries::survivors(mesh, source, targets, places, counts, stopped, &mut out[..n]);
+    let t = entries::survivors(mesh, source, targets, places, counts, stopped, cuts, &mut out[..n]);
     put(t.number());
     put(t.path() as u64);
     put(t.place() as u64);
@@ -55,8 +55,10 @@ fn case(list: &[u64], at: usize) -> usize {
     let d = c + 1 + counts.len();
     let stopped = run(list, d);
     let e = d + 1 + stopped.len();
-    tell(mesh, item(list, at + 2), targets, places, counts, stopped, item(list, e) as usize);
-    e + 1
+    let cuts = run(list, e);
+    let f = e + 1 + cuts.len();
+    tell(mesh, item(list, at + 2), targets, places, counts, stopped, cuts, item(list, f) as usize);
+    f + 1
 }
 
 fn main() {
@@ -79,8 +81,8 @@ def listed():
     places, counts = fan(1, 3, 0, [7, 1, 6])
     for room in (0, 2, 3):
         for source, first in ((0, 0), (8, 0), (0, 1), (8, 1), (WORD, 1)):
-            yield 1, 3, source, [7, 1, 6], [first] + places[1:], counts, [2], room
-    yield 1, 3, 0, [7, 1, 1], places, counts, [], 2
+            yield 1, 3, source, [7, 1, 6], [first] + places[1:], counts, [2], [0, 4], room
+    yield 1, 3, 0, [7, 1, 1], places, counts, [], [], 2
 
 
 def answered(*case):

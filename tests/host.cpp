@@ -275,10 +275,10 @@ Fan fan(const Mesh &mesh, size_t k) {
   return {mesh, s, r.targets, r.places, r.counts};
 }
 
-void judged(const Fan &f, const Words &stopped, size_t e, size_t h, size_t w) {
+void judged(const Fan &f, const Failed &fails, size_t e, size_t h, size_t w) {
   const Mesh &m = f.mesh;
   const size_t k = f.targets.size();
-  Lent<uint64_t> targets(f.targets), places(f.places), counts(f.counts), stops(stopped), ends(e), hops(h), wholes(w);
+  Lent<uint64_t> targets(f.targets), places(f.places), counts(f.counts), stops(fails.stopped), cuts(fails.cuts), ends(e), hops(h), wholes(w);
   const Told told = m.judge(f.source, f.targets, f.places, f.counts);
   const GustVerdict v = gust_judge(m.kind, m.size, f.source, targets.data(), targets.size(), places.data(), places.size(), counts.data(), counts.size());
   numbered("judge", m, f.source, v.number, told.number);
@@ -289,20 +289,23 @@ void judged(const Fan &f, const Words &stopped, size_t e, size_t h, size_t w) {
   Words whole;
   uint64_t count = 0;
   for (size_t i = 0; !all.number && i < k; ++i) {
-    bool ok = true;
-    for (size_t p = 0; p <= f.counts[i]; ++p)
-      if (std::find(stopped.begin(), stopped.end(), f.places[i * m.width() + p]) != stopped.end()) ok = false;
+    const bool ok = !fails.breaks(f.places.data() + i * m.width(), f.counts[i]);
     whole.push_back(ok);
     count += ok;
   }
   const GustAnswer a = gust_survivors(m.kind, m.size, f.source, targets.data(), targets.size(), places.data(), places.size(), counts.data(), counts.size(),
-                                      stops.data(), stops.size(), ends.data(), ends.size(), hops.data(), hops.size(), wholes.data(), wholes.size());
+                                      stops.data(), stops.size(), cuts.data(), cuts.size(), ends.data(), ends.size(), hops.data(), hops.size(),
+                                      wholes.data(), wholes.size());
   answered("survivors", m, f.source, a, all, count);
   if (all.number) {
     held("survivors: columns", ends.untouched() && hops.untouched() && wholes.untouched(), m, f.source);
   } else {
     const Words first(f.counts.begin(), f.counts.begin() + k);
     held("survivors: columns", ends.holds(f.targets) && hops.holds(first) && wholes.holds(whole), m, f.source);
+    if (fails.has_stopped(f.source))
+      same("survivors: the source stopped", m, f.source, a.value, 0);
+    else
+      held("survivors: the clause", k <= a.value + fails.count(m), m, f.source);
   }
 
   const Bytes sheet = told.number ? Bytes{} : model::sheet(m, f.source, k, f.places, f.counts);
@@ -316,7 +319,7 @@ void judged(const Fan &f, const Words &stopped, size_t e, size_t h, size_t w) {
              {number, 0, 0}, sheet.size());
     held("writer: bytes", number ? out.untouched() : out.holds(sheet), m, f.source);
   }
-  held("judge, survivors, writer: what is read", targets.untouched() && places.untouched() && counts.untouched() && stops.untouched(), m, f.source);
+  held("judge, survivors, writer: what is read", targets.untouched() && places.untouched() && counts.untouched() && stops.untouched() && cuts.untouched(), m, f.source);
 }
 
 void fans() {
@@ -324,14 +327,14 @@ void fans() {
     for (int i = 0; i < (small ? 1 : 20); ++i) {
       const size_t k = paths_of(mesh);
       const Fan good = fan(mesh, k);
-      Words stopped;
-      for (uint64_t n = below(5); n--;) stopped.push_back(below(4) ? good.places[below(good.places.size())] : dice());
-      judged(good, stopped, k, k, k);
+      const Failed fails = failed(mesh, good.places, good.counts, mesh.width());
+      judged(good, fails, k, k, k);
+      judged(good, {{}, fails.cuts}, k, k, k);
       judged(good, {}, k + 2, k + 1, k + 3);
-      judged(good, {good.source}, k, k, k);
-      judged(good, stopped, k - 1, k, k);
-      judged(good, stopped, k, k - 1, k);
-      judged(good, stopped, k, k, k - 1);
+      judged(good, {{good.source}, fails.cuts}, k, k, k);
+      judged(good, fails, k - 1, k, k);
+      judged(good, fails, k, k - 1, k);
+      judged(good, fails, k, k, k - 1);
       for (int j = 0; j < 25; ++j) {
         Fan bad = good;
         const size_t w = mesh.width();
@@ -353,7 +356,7 @@ void fans() {
           }
           if (bad.counts.size() < k || bad.places.size() < k * w || bad.targets.size() < k) break;
         }
-        judged(bad, stopped, k, k, k);
+        judged(bad, fails, k, k, k);
       }
     }
 }

@@ -12,6 +12,7 @@
 #include <string>
 
 using model::Bytes;
+using model::Failed;
 using model::Mesh;
 using model::Told;
 using model::Words;
@@ -24,6 +25,30 @@ inline std::mt19937_64 dice(7);
 inline std::map<std::string, std::set<uint64_t>> met;
 
 inline uint64_t below(uint64_t n) { return n ? dice() % n : 0; }
+
+// Failures over paths of w places each: relays on the paths and numbers that are none; links, most of them on the paths, many at the source, in either order and in
+// both; pairs that are no link; and now and then a last number without a partner.
+inline Failed failed(const Mesh &mesh, const Words &places, const Words &counts, size_t w) {
+  Failed f;
+  for (uint64_t n = below(4); n--;) f.stopped.push_back(below(4) ? places[below(places.size())] : dice());
+  for (uint64_t n = below(5); n--;) {
+    const size_t row = below(counts.size()), p = below(3) ? below(counts[row]) : 0;
+    uint64_t u = places[row * w + p], v = places[row * w + p + 1];
+    switch (below(8)) {
+      case 0:
+        u = below(mesh.relays());
+        v = mesh.neighbours(u)[below(mesh.links())];
+        break;
+      case 1: v = below(mesh.relays()); break;
+      case 2: v = dice(); break;
+      case 3: f.cuts.insert(f.cuts.end(), {v, u}); break;
+    }
+    if (below(2)) std::swap(u, v);
+    f.cuts.insert(f.cuts.end(), {u, v});
+  }
+  if (!below(3)) f.cuts.push_back(places[below(places.size())]);
+  return f;
+}
 
 [[noreturn]] inline void fail(const char *what, const Mesh &mesh, uint64_t source, uint64_t got, uint64_t want) {
   std::printf("FAILED: %s: kind %llu, size %llu, source %llu: got %llu, should be %llu\n", what, (unsigned long long)mesh.kind,

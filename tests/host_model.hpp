@@ -8,6 +8,7 @@
 #include <queue>
 #include <set>
 #include <unordered_map>
+#include <utility>
 #include <vector>
 
 namespace model {
@@ -181,6 +182,38 @@ struct Mesh {
       bare = bare || h == 1;
     }
     return {};
+  }
+};
+
+// What has failed: the relays that have stopped, and the cuts, pair j at places 2j and 2j + 1.
+struct Failed {
+  Words stopped, cuts;
+
+  // The pairs, the lower number first; a last number without a partner is none.
+  std::set<std::pair<uint64_t, uint64_t>> pairs() const {
+    std::set<std::pair<uint64_t, uint64_t>> all;
+    for (size_t j = 0; j + 1 < cuts.size(); j += 2) all.insert(std::minmax(cuts[j], cuts[j + 1]));
+    return all;
+  }
+
+  bool has_stopped(uint64_t u) const { return std::find(stopped.begin(), stopped.end(), u) != stopped.end(); }
+
+  // Whether a relay of the path, or a link of it, has failed.
+  bool breaks(const uint64_t *path, size_t hops) const {
+    const auto cut = pairs();
+    for (size_t p = 0; p <= hops; ++p) {
+      if (has_stopped(path[p])) return true;
+      if (p && cut.count(std::minmax(path[p - 1], path[p]))) return true;
+    }
+    return false;
+  }
+
+  // How many different relays of the mesh, and different links of it.
+  size_t count(const Mesh &mesh) const {
+    size_t n = 0;
+    for (uint64_t u : std::set<uint64_t>(stopped.begin(), stopped.end())) n += u < mesh.relays();
+    for (const auto &two : pairs()) n += two.second < mesh.relays() && mesh.linked(two.first, two.second);
+    return n;
   }
 };
 

@@ -74,17 +74,35 @@ def judge(kind, size, s, targets, places, counts, lacking=False):
     return finding(mesh, s, targets, places, counts) or (0, 0, 0)
 
 
-def survivors(kind, size, s, targets, places, counts, stopped, room):
+def pairs(cuts):
+    """The pairs of a list of cuts, each in either order; a last number without a partner is none."""
+    return {frozenset(cuts[j: j + 2]) for j in range(0, len(cuts) - 1, 2)}
+
+
+def whole(path, stopped, cuts):
+    """Whether no relay of the path has stopped, and no two neighbouring ones are a cut link."""
+    return not any(x in stopped for x in path) and not any(frozenset(two) in pairs(cuts) for two in zip(path, path[1:]))
+
+
+def failures(mesh, stopped, cuts):
+    """How many different relays of the mesh have stopped, and different links of it are cut."""
+    links = {two for two in pairs(cuts) if len(two) == 2 and max(two) < mesh.relays and mesh.linked(*two)}
+    return len({x for x in stopped if x < mesh.relays}) + len(links)
+
+
+def survivors(kind, size, s, targets, places, counts, stopped, cuts, room):
     """What is told, the count, and the columns."""
     k, columns = len(targets), [[HELD] * n for n in room]
     told = judge(kind, size, s, targets, places, counts, any(n < k for n in room))
     if told[0]:
         return told, 0, columns
-    width = mesh_of(kind, size).longest + 1
-    whole = [int(not any(x in stopped for x in places[i * width: i * width + counts[i] + 1])) for i in range(k)]
-    for column, values in zip(columns, (targets, counts, whole)):
+    mesh = mesh_of(kind, size)
+    width = mesh.longest + 1
+    marks = [int(whole(places[i * width: i * width + counts[i] + 1], stopped, cuts)) for i in range(k)]
+    assert s in stopped or k <= sum(marks) + failures(mesh, stopped, cuts), (kind, size, s, targets, stopped, cuts)
+    for column, values in zip(columns, (targets, counts, marks)):
         column[:k] = values[:k]
-    return told, sum(whole), columns
+    return told, sum(marks), columns
 
 
 # ---- fans
@@ -258,23 +276,55 @@ def large():
     yield 2, 5, 0, [mesh.relays - 1], places[:9] + [places[8]] + places[10:], counts, [], (1, 1, 1)
 
 
+def severed():
+    """Fans with links cut: each of a path's links, at its source too, in either order, again, with others; pairs that are no link, and lists with a last
+    number that has no partner. Then cuts where something is found or there is no room."""
+    for kind, size, s, targets in FANS:
+        places, counts = fan(kind, size, s, targets)
+        k, mesh = len(targets), mesh_of(kind, size)
+        width = mesh.longest + 1
+        links = [places[i * width + p: i * width + p + 2] for i in range(k) for p in range(counts[i])]
+        first, last = links[0], links[-1]
+        full = (k, k, k)
+        alone = links if len(links) < 12 else [links[0], links[len(links) // 2], links[-1]]
+        for two in alone:
+            yield kind, size, s, targets, places, counts, [], two, full
+            yield kind, size, s, targets, places, counts, [], two[::-1], full
+        far = next((x for x in range(mesh.relays) if x not in (s, mesh.relays) and not mesh.linked(s, x)), s)
+        for cuts in (
+            [*first, *first[::-1]], [*last, *last, *last], [*first, *last], [x for two in links for x in two], [s, s], [s, far], [far, s, *last],
+            [mesh.relays, s], [WORD, targets[0], *first], [s, targets[-1], WORD], [*first, s], [*last, last[0]], [s], [WORD], [first[0], s, first[1], s],
+        ):
+            yield kind, size, s, targets, places, counts, [], cuts, full
+        for stopped in ([s], [targets[0]], [first[1]], [mesh.relays]):
+            yield kind, size, s, targets, places, counts, stopped, last, full
+        yield kind, size, s, targets, places, counts, [], first, (k, k - 1, k)
+        yield kind, size, s, targets, places[:-1] + [0], counts, [], [FILLER, 0] + first, full
+    # the paths 0 2 3 7 6 4 5 and 0 1 of order 1
+    ring = laid(mesh_of(2, 1), [[0, 2, 3, 7, 6, 4, 5], [0, 1]])
+    for stopped, cuts in (
+        ([], [0, 1]), ([], [1, 0, 0, 1]), ([7], [2, 3]), ([], [1, 5]), ([], [0, 7]), ([], [4, 6, 9]), ([], [6]), ([5], [0, 1]), ([0], [])
+    ):
+        yield 2, 1, 0, [5, 1], *ring, stopped, cuts, (2, 2, 2)
+
+
 def cases():
-    yield from refusals()
-    yield from stops()
-    yield from damage()
-    yield from large()
+    for old in (refusals(), stops(), damage(), large()):
+        for *case, room in old:
+            yield *case, [], room
+    yield from severed()
 
 
-def asked(kind, size, s, targets, places, counts, stopped, room):
+def asked(kind, size, s, targets, places, counts, stopped, cuts, room):
     words = [kind, size, s]
-    for run in (targets, places, counts, stopped):
+    for run in (targets, places, counts, stopped, cuts):
         words += [len(run), *run]
     return " ".join("F" if w == FILLER else str(w) for w in [*words, *room])
 
 
-def answered(kind, size, s, targets, places, counts, stopped, room):
+def answered(kind, size, s, targets, places, counts, stopped, cuts, room):
     words = ["judge", *judge(kind, size, s, targets, places, counts)]
-    told, count, columns = survivors(kind, size, s, targets, places, counts, stopped, room)
+    told, count, columns = survivors(kind, size, s, targets, places, counts, stopped, cuts, room)
     words += ["survivors", *told, count]
     for name, column in zip(("targets", "hops", "whole"), columns):
         words += [name, *column]

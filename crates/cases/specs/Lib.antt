@@ -1,3 +1,4 @@
--- The worked cases, and the order of the refusals, proved from the definitions.
+-- The worked cases, those of failures, and the order of the refusals, proved from the definitions.
 pub mod Cases
 pub mod Orders
+pub mod Failing

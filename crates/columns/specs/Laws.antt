@@ -1,16 +1,18 @@
--- A column being filled from its front, a place a turn (`Filling`), and the tests and counts of the loops that fill one. Assumes nothing.
+-- A column being filled from its front, a place a turn (`Filling`), and the tests and counts of the loops that fill one; what code has of one path (`stopped-told`,
+-- `whole-told`). Assumes nothing.
 use Prim.Native.Nat.{ℕ, zero, suc, _+_, _≤_, _<_}
-use mathlib.Core.Path.{_≡_, refl, sym, ap, _∙_}
-use mathlib.Core.Bool.{Bool, true, false, not}
+use mathlib.Core.Path.{_≡_, refl, sym, ap, ap₂, _∙_}
+use mathlib.Core.Bool.{Bool, true, false, not, _||_}
 use mathlib.Core.List.{List, [], _∷_, _++_, append-assoc}
 use native.Mathlib.Numerals.{add-one}
 use native.Mathlib.Omega.{arith}
 use native.Mathlib.Decide.{ℕ-discrete}
-use lib.ListN.{length, take, set, getD, length-set, length-append, List·getD-append}
+use lib.ListN.{length, take, drop, set, getD, length-set, length-drop, length-append, List·getD-append}
 use lib.Seq.{take-suc, drop-cons, set-at, getD-at}
-use Rattle.scan.specs.Scan.{Spot, found, pick, seek, any, count, among, has}
+use Rattle.scan.specs.Scan.{pick, any, count, among, has}
+use Rattle.scan.specs.Laws.{first-true}
 use Rattle.paths.specs.Fan.{relay, hops}
-use Rattle.paths.specs.Whole.{Failed, stops, broken, whole}
+use Rattle.paths.specs.Whole.{Failed, failed, pair, cut, stops, severs, broken, whole}
 use Rattle.columns.specs.Says.{ahead, marks}
 
 -- the first i places of `out` hold `column`, the others what was there
@@ -98,7 +100,35 @@ pub stop-told : (w : ℕ) (places : List ℕ) (fails : Failed) (i p : ℕ) {x : 
 unfolding stops has
 stop-told w places fails i p e f g = ap (among (fails .stopped) 0 (length (fails .stopped))) (sym e) ∙ sym f ∙ g
 
-pub whole-told : (w : ℕ) (places counts : List ℕ) (fails : Failed) (i : ℕ) {sp : Spot} → seek (stops w places fails i) 0 (hops counts i + 1) ≡ sp
-    → not (found sp) ≡ whole w places counts fails i
-unfolding whole broken any
-whole-told w places counts fails i e = ap (λ (sp : Spot). not (found sp)) (sym e)
+-- what code has of two relays, and of whether they are a cut link
+pub cut-told : (w : ℕ) (places : List ℕ) (fails : Failed) (i p : ℕ) {u v : ℕ} {r b : Bool} → u ≡ relay w places i p → v ≡ relay w places i (p + 1)
+    → r ≡ cut (fails .cuts) u v → r ≡ b → severs w places fails i p ≡ b
+unfolding severs
+cut-told w places fails i p d e f g = ap₂ (cut (fails .cuts)) (sym d) (sym e) ∙ sym f ∙ g
+
+-- the cuts from place j on: the pair there, and those after it; nothing where no pair is left
+pub cut-next : (cuts : List ℕ) (u v j : ℕ) → j + 2 ≤ length cuts → cut (drop j cuts) u v ≡ (pair (getD cuts j 0) (getD cuts (j + 1) 0) u v || cut (drop (j + 2) cuts) u v)
+unfolding cut
+cut-next cuts u v j h =
+    let one : suc j ≡ j + 1 = omega arith in
+    let two : suc (j + 1) ≡ j + 2 = omega arith in
+    let rest = ap (λ (i : ℕ). drop i cuts) one ∙ drop-cons cuts (j + 1) 0 (omega arith) ∙ ap (λ (i : ℕ). getD cuts (j + 1) 0 ∷ drop i cuts) two in
+    ap (λ (l : List ℕ). cut l u v) (drop-cons cuts j 0 (omega arith) ∙ ap (λ (l : List ℕ). getD cuts j 0 ∷ l) rest)
+
+pub cut-none : (cuts : List ℕ) (u v j : ℕ) → length cuts ≤ j + 1 → cut (drop j cuts) u v ≡ false
+unfolding cut
+cut-none cuts u v j h = go (drop j cuts) (omega (arith, length-drop j cuts))
+  where
+    go : (l : List ℕ) → length l ≤ 1 → cut l u v ≡ false
+    go [] g = refl
+    go (a ∷ []) g = refl
+    go (a ∷ b ∷ l) g = absurd (omega arith)
+
+module _ (w : ℕ) (places counts stopped cuts : List ℕ) (i : ℕ) {x : Bool} (e : x ≡ any (stops w places (failed stopped []) i) 0 (hops counts i + 1)) where
+  pub stopped-told : x ≡ true → false ≡ whole w places counts (failed stopped cuts) i
+  unfolding whole broken stops
+  stopped-told t = ap not (sym (first-true _ (any (severs w places (failed stopped cuts) i) 0 (hops counts i)) (sym e ∙ t)))
+
+  pub whole-told : {y : Bool} → x ≡ false → y ≡ any (severs w places (failed [] cuts) i) 0 (hops counts i) → not y ≡ whole w places counts (failed stopped cuts) i
+  unfolding whole broken stops severs
+  whole-told f g = ap₂ (λ (a b : Bool). not (a || b)) (sym f ∙ e) g

@@ -1,7 +1,12 @@
 // The columns of the paths of a fan or a bundle, one for each part of an entry. Inner functions of survivors.
 ghost use mathlib.Core.Path.{_≡_};
+ghost use mathlib.Core.Bool.{_&&_};
+ghost use mathlib.Core.List.{[]};
+ghost use Prim.Native.Nat.{_+_};
+ghost use lib.Dec.{eqb};
 ghost use lib.ListN.{length, take};
-ghost use Rattle.scan.specs.Scan.{pick, count};
+ghost use Rattle.scan.specs.Scan.{pick, any, count};
+ghost use Rattle.paths.specs.Fan.{hops};
 ghost use Rattle.paths.specs.Whole as specs;
 ghost use Rattle.paths.specs.Whole.{failed};
 ghost use Rattle.judge_rows.specs.Needs.{Held};
@@ -20,21 +25,85 @@ pub fn bundle_paths(mesh: Mesh) -> usize
     0
 }
 
-// Whether no relay on path i has stopped.
-fn whole(w: usize, places: &[u64], counts: &[u64], stopped: &[u64], i: usize) -> bool
+// Whether a is u, and b is v.
+fn same(a: u64, b: u64, u: u64, v: u64) -> bool
+    ensures { λ r. ⌜ r ≡ (eqb a u && eqb b v) ⌝ }
+{
+    if a == u {
+        return b == v;
+    }
+    false
+}
+
+// Whether the pair a, b is u, v in either order.
+fn pair(a: u64, b: u64, u: u64, v: u64) -> bool
+    ensures { λ r. ⌜ r ≡ specs.pair a b u v ⌝ }
+{
+    if same(a, b, u, v) {
+        return true;
+    }
+    same(a, b, v, u)
+}
+
+// Whether one of the pairs is u, v in either order; a last number without a partner is no pair.
+fn cut(cuts: &[u64], u: u64, v: u64) -> bool
+    ensures { λ r. ⌜ r ≡ specs.cut (now (cuts .entry)) u v ⌝ }
+{
+    let n = cuts.len();
+    let mut j: usize = 0;
+    while 2 <= n - j {
+        if pair(cuts[j], cuts[j + 1], u, v) {
+            return true;
+        }
+        j += 2;
+    }
+    false
+}
+
+// Whether a relay on path i has stopped.
+fn stopped_on(w: usize, places: &[u64], counts: &[u64], stopped: &[u64], i: usize) -> bool
     requires { ⌜ Held w (length (now places)) (now counts) i ⌝ }
-    ensures { λ r. ⌜ r ≡ specs.whole w (now (places .entry)) (now (counts .entry)) (failed (now (stopped .entry))) i ⌝ }
+    ensures { λ r. ⌜ r ≡ any (specs.stops w (now (places .entry)) (failed (now (stopped .entry)) []) i) 0 (hops (now (counts .entry)) i + 1) ⌝ }
 {
     let h = counts[i] as usize;
     let mut p: usize = 0;
     while p <= h {
         let x = judge_rows::relay(w, places, i, p);
         if scan::among(stopped, 0, stopped.len(), x) {
-            return false;
+            return true;
         }
         p += 1;
     }
-    true
+    false
+}
+
+// Whether a link on path i, from one relay to the next, is cut.
+fn cut_on(w: usize, places: &[u64], counts: &[u64], cuts: &[u64], i: usize) -> bool
+    requires { ⌜ Held w (length (now places)) (now counts) i ⌝ }
+    ensures { λ r. ⌜ r ≡ any (specs.severs w (now (places .entry)) (failed [] (now (cuts .entry))) i) 0 (hops (now (counts .entry)) i) ⌝ }
+{
+    let h = counts[i] as usize;
+    let mut p: usize = 0;
+    while p < h {
+        let u = judge_rows::relay(w, places, i, p);
+        let v = judge_rows::relay(w, places, i, p + 1);
+        if cut(cuts, u, v) {
+            return true;
+        }
+        p += 1;
+    }
+    false
+}
+
+// Whether nothing on path i has failed.
+fn whole(w: usize, places: &[u64], counts: &[u64], stopped: &[u64], cuts: &[u64], i: usize) -> bool
+    requires { ⌜ Held w (length (now places)) (now counts) i ⌝ }
+    ensures { λ r. ⌜ r ≡ specs.whole w (now (places .entry)) (now (counts .entry)) (failed (now (stopped .entry)) (now (cuts .entry))) i ⌝ }
+{
+    if stopped_on(w, places, counts, stopped, i) {
+        return false;
+    }
+    !cut_on(w, places, counts, cuts, i)
 }
 
 // 1 for yes, 0 for no.
@@ -45,15 +114,23 @@ fn flag(b: bool) -> u64
 }
 
 // Writes for each of k paths whether it is whole, and counts those that are.
-fn mark(w: usize, places: &[u64], counts: &[u64], stopped: &[u64], k: usize, out: &mut [u64]) -> u64
+fn mark(
+    w: usize,
+    places: &[u64],
+    counts: &[u64],
+    stopped: &[u64],
+    cuts: &[u64],
+    k: usize,
+    out: &mut [u64],
+) -> u64
     requires { ⌜ Marked w (length (now places)) (now counts) k (length (now out)) ⌝ }
-    ensures { λ r. ⌜ r ≡ count (specs.whole w (now (places .entry)) (now (counts .entry)) (failed (now (stopped .entry)))) k ⌝ }
-    ensures { λ r. ⌜ now (out .exit) ≡ ahead k (marks (specs.whole w (now (places .entry)) (now (counts .entry)) (failed (now (stopped .entry)))) k) (now (out .entry)) ⌝ }
+    ensures { λ r. ⌜ r ≡ count (specs.whole w (now (places .entry)) (now (counts .entry)) (failed (now (stopped .entry)) (now (cuts .entry)))) k ⌝ }
+    ensures { λ r. ⌜ now (out .exit) ≡ ahead k (marks (specs.whole w (now (places .entry)) (now (counts .entry)) (failed (now (stopped .entry)) (now (cuts .entry)))) k) (now (out .entry)) ⌝ }
 {
     let mut n: u64 = 0;
     let mut i: usize = 0;
     while i < k {
-        let one = flag(whole(w, places, counts, stopped, i));
+        let one = flag(whole(w, places, counts, stopped, cuts, i));
         out[i] = one;
         n += one;
         i += 1;
@@ -80,15 +157,16 @@ pub fn fill(
     places: &[u64],
     counts: &[u64],
     stopped: &[u64],
+    cuts: &[u64],
     ends: &mut [u64],
     hops: &mut [u64],
     wholes: &mut [u64],
 ) -> u64
     requires { ⌜ Filled w (length (now places)) (now counts) (length (now targets)) (length (now ends)) (length (now hops)) (length (now wholes)) ⌝ }
-    ensures { λ r. ⌜ Columns w (now (targets .entry)) (now (places .entry)) (now (counts .entry)) (failed (now (stopped .entry))) (now (ends .entry)) (now (hops .entry)) (now (wholes .entry)) r (now (ends .exit)) (now (hops .exit)) (now (wholes .exit)) ⌝ }
+    ensures { λ r. ⌜ Columns w (now (targets .entry)) (now (places .entry)) (now (counts .entry)) (failed (now (stopped .entry)) (now (cuts .entry))) (now (ends .entry)) (now (hops .entry)) (now (wholes .entry)) r (now (ends .exit)) (now (hops .exit)) (now (wholes .exit)) ⌝ }
 {
     let k = targets.len();
     copy(targets, k, ends);
     copy(counts, k, hops);
-    mark(w, places, counts, stopped, k, wholes)
+    mark(w, places, counts, stopped, cuts, k, wholes)
 }

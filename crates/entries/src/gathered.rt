@@ -78,9 +78,10 @@ pub fn gather<'b>(
     places: &'b [u64],
     counts: &'b [u64],
     stopped: &'b [u64],
+    cuts: &'b [u64],
     room: usize,
 ) -> Gathered
-    ensures { λ r. ⌜ Gathers (fanAsked (kindOf (mesh .kind)) (mesh .size) source (now (targets .entry))) (now (places .entry)) (now (counts .entry)) (failed (now (stopped .entry))) room r ⌝ }
+    ensures { λ r. ⌜ Gathers (fanAsked (kindOf (mesh .kind)) (mesh .size) source (now (targets .entry))) (now (places .entry)) (now (counts .entry)) (failed (now (stopped .entry)) (now (cuts .entry))) room r ⌝ }
 {
     let n = most(room);
     let mut ends = [0u64; MOST];
@@ -93,6 +94,7 @@ pub fn gather<'b>(
         places,
         counts,
         stopped,
+        cuts,
         &mut ends[..n],
         &mut hops[..n],
         &mut wholes[..n],
@@ -115,9 +117,10 @@ pub fn gather_bundle<'b>(
     places: &'b [u64],
     counts: &'b [u64],
     stopped: &'b [u64],
+    cuts: &'b [u64],
     room: usize,
 ) -> Gathered
-    ensures { λ r. ⌜ Gathers (bundleAsked (kindOf (mesh .kind)) (mesh .size) source target) (now (places .entry)) (now (counts .entry)) (failed (now (stopped .entry))) room r ⌝ }
+    ensures { λ r. ⌜ Gathers (bundleAsked (kindOf (mesh .kind)) (mesh .size) source target) (now (places .entry)) (now (counts .entry)) (failed (now (stopped .entry)) (now (cuts .entry))) room r ⌝ }
 {
     let n = most(room);
     let mut ends = [0u64; MOST];
@@ -130,6 +133,7 @@ pub fn gather_bundle<'b>(
         places,
         counts,
         stopped,
+        cuts,
         &mut ends[..n],
         &mut hops[..n],
         &mut wholes[..n],

@@ -38,7 +38,7 @@ fn store<'a>(g: Gathered, out: &'a mut [Entry]) -> Tally
 
 // Of a fan from the source to the targets, an entry for each path, in the targets' order, at the front of `out`; the entries after those stay.
 // Answers how many are whole. In the cube of 2 dimensions, of the paths 0, 2, 3 and 0, 1, with relay 2 stopped, the entries are (3, 2, no) and
-// (1, 1, yes), and the answer is 1. Refuses with 1 to 8, or gives the judge's first finding, and then leaves `out` as it was.
+// (1, 1, yes), and the answer is 1. Cuts are as in `survivors::survivors`. Refuses with 1 to 8, or gives the judge's first finding, and then leaves `out` as it was.
 // Proved by hand, so it has no loop and no branch; one lifetime for all that is read keeps that proof short.
 pub fn survivors<'a, 'b>(
     mesh: Mesh,
@@ -47,11 +47,21 @@ pub fn survivors<'a, 'b>(
     places: &'b [u64],
     counts: &'b [u64],
     stopped: &'b [u64],
+    cuts: &'b [u64],
     out: &'a mut [Entry],
 ) -> Tally
-    ensures { λ r. ⌜ Listed (fanAsked (kindOf (mesh .kind)) (mesh .size) source (now (targets .entry))) (now (places .entry)) (now (counts .entry)) (failed (now (stopped .entry))) (now (out .entry)) r (now (out .exit)) ⌝ }
+    ensures { λ r. ⌜ Listed (fanAsked (kindOf (mesh .kind)) (mesh .size) source (now (targets .entry))) (now (places .entry)) (now (counts .entry)) (failed (now (stopped .entry)) (now (cuts .entry))) (now (out .entry)) r (now (out .exit)) ⌝ }
 {
-    let g = gathered::gather(mesh, source, targets, places, counts, stopped, out.len());
+    let g = gathered::gather(
+        mesh,
+        source,
+        targets,
+        places,
+        counts,
+        stopped,
+        cuts,
+        out.len(),
+    );
     store(g, out)
 }
 
@@ -66,10 +76,20 @@ pub fn bundle_survivors<'a, 'b>(
     places: &'b [u64],
     counts: &'b [u64],
     stopped: &'b [u64],
+    cuts: &'b [u64],
     out: &'a mut [Entry],
 ) -> Tally
-    ensures { λ r. ⌜ Listed (bundleAsked (kindOf (mesh .kind)) (mesh .size) source target) (now (places .entry)) (now (counts .entry)) (failed (now (stopped .entry))) (now (out .entry)) r (now (out .exit)) ⌝ }
+    ensures { λ r. ⌜ Listed (bundleAsked (kindOf (mesh .kind)) (mesh .size) source target) (now (places .entry)) (now (counts .entry)) (failed (now (stopped .entry)) (now (cuts .entry))) (now (out .entry)) r (now (out .exit)) ⌝ }
 {
-    let g = gathered::gather_bundle(mesh, source, target, places, counts, stopped, out.len());
+    let g = gathered::gather_bundle(
+        mesh,
+        source,
+        target,
+        places,
+        counts,
+        stopped,
+        cuts,
+        out.len(),
+    );
     store(g, out)
 }

@@ -184,11 +184,12 @@ pub extern "C" fn gust_survivors(
     places: &[u64],
     counts: &[u64],
     stopped: &[u64],
+    cuts: &[u64],
     ends: &mut [u64],
     hops: &mut [u64],
     wholes: &mut [u64],
 ) -> GustAnswer
-    ensures { λ r. ⌜ SurvivedIn (fanAsked (kindOf kind) size source (now (targets .entry))) (now (places .entry)) (now (counts .entry)) (failed (now (stopped .entry))) (now (ends .entry)) (now (hops .entry)) (now (wholes .entry)) r (now (ends .exit)) (now (hops .exit)) (now (wholes .exit)) ⌝ }
+    ensures { λ r. ⌜ SurvivedIn (fanAsked (kindOf kind) size source (now (targets .entry))) (now (places .entry)) (now (counts .entry)) (failed (now (stopped .entry)) (now (cuts .entry))) (now (ends .entry)) (now (hops .entry)) (now (wholes .entry)) r (now (ends .exit)) (now (hops .exit)) (now (wholes .exit)) ⌝ }
 {
     shapes::of_tally(survivors::survivors(
         Mesh {
@@ -200,6 +201,7 @@ pub extern "C" fn gust_survivors(
         places,
         counts,
         stopped,
+        cuts,
         ends,
         hops,
         wholes,
@@ -216,11 +218,12 @@ pub extern "C" fn gust_bundle_survivors(
     places: &[u64],
     counts: &[u64],
     stopped: &[u64],
+    cuts: &[u64],
     ends: &mut [u64],
     hops: &mut [u64],
     wholes: &mut [u64],
 ) -> GustAnswer
-    ensures { λ r. ⌜ SurvivedIn (bundleAsked (kindOf kind) size source target) (now (places .entry)) (now (counts .entry)) (failed (now (stopped .entry))) (now (ends .entry)) (now (hops .entry)) (now (wholes .entry)) r (now (ends .exit)) (now (hops .exit)) (now (wholes .exit)) ⌝ }
+    ensures { λ r. ⌜ SurvivedIn (bundleAsked (kindOf kind) size source target) (now (places .entry)) (now (counts .entry)) (failed (now (stopped .entry)) (now (cuts .entry))) (now (ends .entry)) (now (hops .entry)) (now (wholes .entry)) r (now (ends .exit)) (now (hops .exit)) (now (wholes .exit)) ⌝ }
 {
     shapes::of_tally(survivors::bundle_survivors(
         Mesh {
@@ -232,6 +235,7 @@ pub extern "C" fn gust_bundle_survivors(
         places,
         counts,
         stopped,
+        cuts,
         ends,
         hops,
         wholes,

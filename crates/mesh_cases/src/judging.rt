@@ -1,4 +1,4 @@
-// Sets of paths judged, and their survivors told: kind, size and source; then targets, places, counts and stopped relays, each with its length before
+// Sets of paths judged, and their survivors told: kind, size and source; then targets, places, counts, stopped relays and cuts, each with its length before
 // it; then how many places each of three columns has. A line has what the judge tells (number, path, place), what survivors tells (the same and the
 // count), and the columns, all 9 before, as they are afterwards.
 ghost use Prim.Native.Nat.{_≤_, _<_};
@@ -42,6 +42,7 @@ fn tell(
     places: &[u64],
     counts: &[u64],
     stopped: &[u64],
+    cuts: &[u64],
     room: Room,
     ends: &mut [u64],
     hops: &mut [u64],
@@ -57,6 +58,7 @@ fn tell(
         places,
         counts,
         stopped,
+        cuts,
         &mut ends[..a],
         &mut hops[..b],
         &mut wholes[..c],
@@ -77,6 +79,7 @@ fn both(
     places: &[u64],
     counts: &[u64],
     stopped: &[u64],
+    cuts: &[u64],
     room: Room,
 ) {
     let mut ends = [9u64; 40];
@@ -90,6 +93,7 @@ fn both(
         places,
         counts,
         stopped,
+        cuts,
         room,
         &mut ends,
         &mut hops,
@@ -115,10 +119,12 @@ pub fn case(list: &[u64], at: usize) -> usize
     let d = c + 1 + counts.len();
     let stopped = run(list, d);
     let e = d + 1 + stopped.len();
+    let cuts = run(list, e);
+    let f = e + 1 + cuts.len();
     let room = Room {
-        ends: item(list, e) as usize,
-        hops: item(list, e + 1) as usize,
-        wholes: item(list, e + 2) as usize,
+        ends: item(list, f) as usize,
+        hops: item(list, f + 1) as usize,
+        wholes: item(list, f + 2) as usize,
     };
     both(
         mesh,
@@ -127,7 +133,8 @@ pub fn case(list: &[u64], at: usize) -> usize
         places,
         counts,
         stopped,
+        cuts,
         room,
     );
-    e + 3
+    f + 3
 }

@@ -12,6 +12,7 @@ pub mod Keeps
 pub mod Judged
 pub mod Alike
 pub mod Whole
+pub mod Cuts
 pub mod Survive
 pub mod Walk
 pub mod Walks

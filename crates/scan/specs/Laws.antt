@@ -4,7 +4,7 @@
 -- is the first (`seek-first`). `any-true`, `true-any` and `false-any`, `any-false` say the same of `any`, `among-..` of a list.
 use Prim.Native.Nat.{ℕ, zero, suc, _+_, _≤_, _<_}
 use mathlib.Core.Path.{_≡_, refl, sym, ap, _∙_}
-use mathlib.Core.Bool.{Bool, true, false, _&&_}
+use mathlib.Core.Bool.{Bool, true, false, _&&_, _||_}
 use mathlib.Core.Logic.{_⊎_, inl, inr, ⊎-elim, _≢_}
 use mathlib.Core.List.{List, [], _∷_}
 use native.Mathlib.Omega.{arith}
@@ -33,6 +33,17 @@ not-true {b} h = ⊎-elim (λ t. absurd (h t)) (λ f. f) (true-or b)
 pub both-true : (a b : Bool) → (a && b) ≡ true → (a ≡ true) × (b ≡ true)
 both-true true b e = (refl, e)
 both-true false b e = absurd (true-false e refl)
+
+pub either-true : (a b : Bool) → (a || b) ≡ true → (a ≡ true) ⊎ (b ≡ true)
+either-true true b e = inl refl
+either-true false b e = inr e
+
+pub first-true : (a b : Bool) → a ≡ true → (a || b) ≡ true
+first-true a b e = ap (λ (x : Bool). x || b) e
+
+pub second-true : (a b : Bool) → b ≡ true → (a || b) ≡ true
+second-true true b e = refl
+second-true false b e = e
 
 -- ---- seek
 
@@ -267,3 +278,16 @@ count-not p q (suc n) t f = go (true-or (p n)) (count-not p q n (λ i l. t i (om
     go : (p n ≡ true) ⊎ (p n ≡ false) → count p n + count q n ≡ n → count p (suc n) + count q (suc n) ≡ suc n
     go (inl a) r = omega (arith, count-on p n a, count-off q n (t n (omega arith) a))
     go (inr a) r = omega (arith, count-off p n a, count-on q n (f n (omega arith) a))
+
+-- a test that implies one of two others holds at no more numbers than both together
+pub count-either : (r p q : ℕ → Bool) (n : ℕ) → ((i : ℕ) → i < n → r i ≡ true → (p i ≡ true) ⊎ (q i ≡ true)) → count r n ≤ count p n + count q n
+count-either r p q zero h = omega (arith, count-none r)
+count-either r p q (suc n) h = go (true-or (r n)) (count-either r p q n (λ i l. h i (omega arith)))
+  where
+    least : (t : ℕ → Bool) → count t n ≤ count t (suc n)
+    least t = ⊎-elim (λ a. omega (arith, count-on t n a)) (λ a. omega (arith, count-off t n a)) (true-or (t n))
+
+    go : (r n ≡ true) ⊎ (r n ≡ false) → count r n ≤ count p n + count q n → count r (suc n) ≤ count p (suc n) + count q (suc n)
+    go (inl t) e =
+        ⊎-elim (λ a. omega (arith, count-on r n t, count-on p n a, least q)) (λ a. omega (arith, count-on r n t, count-on q n a, least p)) (h n (omega arith) t)
+    go (inr f) e = omega (arith, count-off r n f, least p, least q)

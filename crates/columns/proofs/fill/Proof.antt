@@ -32,7 +32,7 @@ returns c =
     let m = c .before .before in
     let h = m .before .before .before .before in
     let e = h .before .before .before .before in
-    let a = e .before .before .before .before .before .before .before .before .before .args in
+    let a = e .before .before .before .before .before .before .before .before .before .before .args in
     record {
       counted = m .mark .ensures .0;
       ended = e .copy .ensures ∙ ap (λ (l : List ℕ). ahead (length (a .targets .now)) l (a .ends .now)) (take-length (a .targets .now));

@@ -18,31 +18,31 @@ record Inv (test : ℕ → Bool) (k : ℕ) (was out : List ℕ) (n i : ℕ) : Ty
   counted : n ≡ count test i
 
 abbrev Inv-loop : tie.InvT-loop
-Inv-loop w places counts stopped k out₀ n₀ i₀ out n i = Inv (whole w places counts (failed stopped)) k out₀ out n i
+Inv-loop w places counts stopped cuts k out₀ n₀ i₀ out n i = Inv (whole w places counts (failed stopped cuts)) k out₀ out n i
 
 abbrev μ-loop : tie.MeasureT-loop
-μ-loop w places counts stopped k out₀ n₀ i₀ out n i = k - i
+μ-loop w places counts stopped cuts k out₀ n₀ i₀ out n i = k - i
 
 -- which paths are whole
 abbrev test : tie.Start Inv-loop μ-loop → ℕ → Bool
-test s = whole (s .args .w) (s .args .places .now) (s .args .counts .now) (failed (s .args .stopped .now))
+test s = whole (s .args .w) (s .args .places .now) (s .args .counts .now) (failed (s .args .stopped .now) (s .args .cuts .now))
 
 -- a turn's mark, and the count with it
-one : (c : tie.After-flag Inv-loop μ-loop) → c .flag .result ≡ pick (test (c .before .before .before .before .before .before .before .before) (c .before .before .before .loop .i)) 1 0
+one : (c : tie.After-flag Inv-loop μ-loop) → c .flag .result ≡ pick (test (c .before .before .before .before .before .before .before .before .before) (c .before .before .before .loop .i)) 1 0
 one c = c .flag .ensures ∙ ap (λ (b : Bool). pick b 1 0) (c .before .whole .ensures)
 
 more : (c : tie.After-flag Inv-loop μ-loop)
-    → c .before .before .before .loop .n + c .flag .result ≡ count (test (c .before .before .before .before .before .before .before .before)) (c .before .before .before .loop .i + 1)
-more c = let l = c .before .before .before in count-more (test (l .before .before .before .before .before)) (l .loop .i) (l .loop .inv .counted) (one c)
+    → c .before .before .before .loop .n + c .flag .result ≡ count (test (c .before .before .before .before .before .before .before .before .before)) (c .before .before .before .loop .i + 1)
+more c = let l = c .before .before .before in count-more (test (l .before .before .before .before .before .before)) (l .loop .i) (l .loop .inv .counted) (one c)
 
 loop-holds : tie.Need-loop-holds Inv-loop μ-loop
 loop-holds c =
-    let a = c .before .before .before .before .args in
-    let test = whole (a .w) (a .places .now) (a .counts .now) (failed (a .stopped .now)) in
+    let a = c .before .before .before .before .before .args in
+    let test = whole (a .w) (a .places .now) (a .counts .now) (failed (a .stopped .now) (a .cuts .now)) in
     record { bound = omega arith; filling = marked-start test (a .out .now); counted = count-start test }
 
 whole-requires : tie.Need-whole-requires Inv-loop μ-loop
-whole-requires c κs = c .before .before .before .before .before .before .pre .held _ (c .loop-test .taken)
+whole-requires c κs = c .before .before .before .before .before .before .before .pre .held _ (c .loop-test .taken)
 
 flag-requires : tie.Need-flag-requires Inv-loop μ-loop
 flag-requires c κs = search needs
@@ -51,10 +51,10 @@ mul-out : tie.Need-mul-out Inv-loop μ-loop
 mul-out c = search needs
 
 slice-write-out : tie.Need-slice-write-out Inv-loop μ-loop
-slice-write-out c = let l = c .before .before .before in omega (arith, l .before .before .before .before .before .pre .room, l .loop .inv .filling .long)
+slice-write-out c = let l = c .before .before .before in omega (arith, l .before .before .before .before .before .before .pre .room, l .loop .inv .filling .long)
 
 add-n : tie.Need-add-n Inv-loop μ-loop
-add-n c = let l = c .before .before .before in omega (arith, more c, count-most (test (l .before .before .before .before .before)) (l .loop .i + 1))
+add-n c = let l = c .before .before .before in omega (arith, more c, count-most (test (l .before .before .before .before .before .before)) (l .loop .i + 1))
 
 add-i : tie.Need-add-i Inv-loop μ-loop
 add-i c = search needs
@@ -65,7 +65,7 @@ loop-less c = search needs
 loop-again : tie.Need-loop-again Inv-loop μ-loop
 loop-again c =
     let l = c .before .before .before in
-    let s = l .before .before .before .before .before in
+    let s = l .before .before .before .before .before .before in
     let v = l .loop .inv in
     record { bound = omega arith; filling = marked-more (test s) (v .filling) (omega (arith, s .pre .room)) (one c); counted = more c }
 
@@ -75,7 +75,7 @@ same-length c = c .before .loop .inv .filling .long
 returns : tie.Need-returns Inv-loop μ-loop
 returns c =
     let l = c .before .loop in
-    let s = c .before .before .before .before .before .before in
+    let s = c .before .before .before .before .before .before .before in
     let all : l .i ≡ s .args .k = omega (arith, l .inv .bound) in
     (l .inv .counted ∙ ap (count (test s)) all, l .inv .filling .holds ∙ ap (λ (j : ℕ). ahead j (marks (test s) j) (s .args .out .now)) all)
 

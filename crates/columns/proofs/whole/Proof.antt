@@ -1,76 +1,24 @@
--- `columns::whole` meets its contract: the invariant is that no relay passed has stopped. Assumes nothing.
-use Prim.Native.Nat.{_+_, _-_}
-use native.Mathlib.Omega.{arith}
-use Rattle.scan.specs.Laws.{Passed, passed-start, passed-more, passed-at, passed-all}
-use Rattle.paths.specs.Fan.{hops}
-use Rattle.paths.specs.Whole.{failed, stops}
-use Rattle.columns.specs.Laws.{stop-told, whole-told}
+-- `columns::whole` meets its contract: its relays, then its links. Assumes nothing.
+use Rattle.columns.specs.Laws.{stopped-told, whole-told}
 use borrow.Author.Needs.{needs}
 use Rattle.columns.proofs.whole.Statement.{statement}
 use Rattle.columns.proofs.whole.Tie as tie
 
-abbrev Inv-loop : tie.InvT-loop
-Inv-loop w places counts stopped i h p₀ p = Passed (stops w places (failed stopped) i) 0 (h + 1) p
+stopped-on-requires : tie.Need-stopped-on-requires
+stopped-on-requires c κs = search needs
 
-abbrev μ-loop : tie.MeasureT-loop
-μ-loop w places counts stopped i h p₀ p = h + 1 - p
-
-mul-h : tie.Need-mul-h Inv-loop μ-loop
-mul-h c = search needs
-
-shared-slice-read-h : tie.Need-shared-slice-read-h Inv-loop μ-loop
-shared-slice-read-h c = search needs
-
-loop-holds : tie.Need-loop-holds Inv-loop μ-loop
-loop-holds c = passed-start _ 0 _
-
-relay-requires : tie.Need-relay-requires Inv-loop μ-loop
-unfolding hops
-relay-requires c κs = let s = c .before .before .before .before .before .before in omega (arith, s .pre .row .room, s .pre .row .short)
-
-among-requires : tie.Need-among-requires Inv-loop μ-loop
-among-requires c κs = search needs
-
-returns : tie.Need-returns Inv-loop μ-loop
-unfolding hops
+returns : tie.Need-returns
 returns c =
-    let l = c .before .before .before .before in
-    let a = l .before .before .before .before .before .args in
-    whole-told (a .w) (a .places .now) (a .counts .now) (failed (a .stopped .now)) (a .i)
-    (passed-at (l .loop .inv) (omega arith) (stop-told (a .w) (a .places .now) (failed (a .stopped .now)) (a .i) _ (c .before .before .relay .ensures) (c .before .among .ensures) (c .if1 .taken)))
-
-add-p : tie.Need-add-p Inv-loop μ-loop
-unfolding hops
-add-p c = let s = c .before .before .before .before .before .before .before .before .before in omega (arith, s .pre .row .room, s .pre .row .short, s .good)
-
-loop-less : tie.Need-loop-less Inv-loop μ-loop
-loop-less c = search needs
-
-loop-again : tie.Need-loop-again Inv-loop μ-loop
-loop-again c =
-    let l = c .before .before .before .before in
-    let a = l .before .before .before .before .before .args in
-    passed-more (l .loop .inv) (omega arith) (stop-told (a .w) (a .places .now) (failed (a .stopped .now)) (a .i) _ (c .before .before .relay .ensures) (c .before .among .ensures) (c .if1 .left))
-
-returns-2 : tie.Need-returns-2 Inv-loop μ-loop
-unfolding hops
-returns-2 c =
     let a = c .before .before .before .before .before .before .args in
-    whole-told (a .w) (a .places .now) (a .counts .now) (failed (a .stopped .now)) (a .i) (passed-all (c .before .loop .inv) (omega arith))
+    stopped-told (a .w) (a .places .now) (a .counts .now) (a .stopped .now) (a .cuts .now) (a .i) (c .before .stopped-on .ensures) (c .if1 .taken)
+
+cut-on-requires : tie.Need-cut-on-requires
+cut-on-requires c κs = search needs
+
+returns-2 : tie.Need-returns-2
+returns-2 c =
+    let a = c .before .before .before .before .before .before .before .args in
+    whole-told (a .w) (a .places .now) (a .counts .now) (a .stopped .now) (a .cuts .now) (a .i) (c .before .before .stopped-on .ensures) (c .before .if1 .left) (c .cut-on .ensures)
 
 pub whole-spec : {M : Type 1} → statement M
-whole-spec =
-    tie.close
-    (tie.spec
-    Inv-loop
-    μ-loop
-    mul-h
-    shared-slice-read-h
-    loop-holds
-    relay-requires
-    among-requires
-    returns
-    add-p
-    loop-less
-    loop-again
-    returns-2)
+whole-spec = tie.close (tie.spec stopped-on-requires returns cut-on-requires returns-2)

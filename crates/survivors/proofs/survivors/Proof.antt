@@ -11,7 +11,7 @@ use Rattle.survivors.proofs.survivors.Statement.{statement}
 use Rattle.survivors.proofs.survivors.Tie as tie
 
 abbrev at : tie.After-judge-with → tie.Start
-at c = c .before .before .before .before .before .before .before .before .before
+at c = c .before .before .before .before .before .before .before .before .before .before
 
 abbrev asked : tie.Start → Asked
 asked s = fanAsked (kindOf (s .args .mesh .kind)) (s .args .mesh .size) (s .args .source) (s .args .targets .now)
@@ -42,14 +42,14 @@ places-in-requires c κs =
     let s = at (c .before .before) in
     let a = s .args in
     request-fine (kindOf (a .mesh .kind)) (a .mesh .size) (a .source) (a .targets .now)
-    (judged-passed (asked s) (a .places .now) (a .counts .now) (failed (a .stopped .now)) (a .ends .now) (a .hops .now) (a .wholes .now) (clean c) .faultless) .known
+    (judged-passed (asked s) (a .places .now) (a .counts .now) (failed (a .stopped .now) (a .cuts .now)) (a .ends .now) (a .hops .now) (a .wholes .now) (clean c) .faultless) .known
 
 fill-requires : tie.Need-fill-requires
 fill-requires c κs =
     let p = c .before .before .before in
     let s = at (p .before .before .before) in
     let a = s .args in
-    ready (asked s) (a .places .now) (a .counts .now) (failed (a .stopped .now)) (a .ends .now) (a .hops .now) (a .wholes .now) (clean (p .before)) (p .places-in .ensures) refl
+    ready (asked s) (a .places .now) (a .counts .now) (failed (a .stopped .now) (a .cuts .now)) (a .ends .now) (a .hops .now) (a .wholes .now) (clean (p .before)) (p .places-in .ensures) refl
 
 enum-known-verdict : tie.Need-enum-known-verdict
 enum-known-verdict c = search needs
@@ -72,20 +72,20 @@ returns c =
     let p = f .before .before .before .before in
     let s = at (p .before .before .before) in
     let a = s .args in
-    survived (asked s) (a .places .now) (a .counts .now) (failed (a .stopped .now)) (a .ends .now) (a .hops .now) (a .wholes .now) (clean (p .before)) (p .places-in .ensures) refl
+    survived (asked s) (a .places .now) (a .counts .now) (failed (a .stopped .now) (a .cuts .now)) (a .ends .now) (a .hops .now) (a .wholes .now) (clean (p .before)) (p .places-in .ensures) refl
     (f .fill .ensures)
 
 returns-2 : tie.Need-returns-2
 returns-2 c =
     let j = c .before .before .before in
     let a = at j .args in
-    found-survived (asked (at j)) (a .places .now) (a .counts .now) (failed (a .stopped .now)) (a .ends .now) (a .hops .now) (a .wholes .now) (c .before .verdict .given .1) (told j)
+    found-survived (asked (at j)) (a .places .now) (a .counts .now) (failed (a .stopped .now) (a .cuts .now)) (a .ends .now) (a .hops .now) (a .wholes .now) (c .before .verdict .given .1) (told j)
 
 returns-3 : tie.Need-returns-3
 returns-3 c =
     let j = c .before .before .before in
     let a = at j .args in
-    refused-survived (asked (at j)) (a .places .now) (a .counts .now) (failed (a .stopped .now)) (a .ends .now) (a .hops .now) (a .wholes .now) (c .before .verdict2 .given .1) (told j)
+    refused-survived (asked (at j)) (a .places .now) (a .counts .now) (failed (a .stopped .now) (a .cuts .now)) (a .ends .now) (a .hops .now) (a .wholes .now) (c .before .verdict2 .given .1) (told j)
 
 pub survivors-spec : {M : Type 1} → statement M
 survivors-spec =

@@ -39,9 +39,9 @@ returns : tie.Need-returns
 returns c =
     let v = c .before .before .before .before in
     let m = v .before .before .before .before in
-    let a = m .before .before .before .before .before .args in
+    let a = m .before .before .before .before .before .before .args in
     gathered (fanAsked (kindOf (a .mesh .kind)) (a .mesh .size) (a .source) (a .targets .now)) (fan-few (a .mesh .kind) (a .mesh .size) (a .source) (a .targets .now))
-    (a .places .now) (a .counts .now) (failed (a .stopped .now)) (a .room) _ _ _ _ _ _ refl (m .most .ensures) (v .survivors .ensures) (λ e. refl) (c .taken .ensures)
+    (a .places .now) (a .counts .now) (failed (a .stopped .now) (a .cuts .now)) (a .room) _ _ _ _ _ _ refl (m .most .ensures) (v .survivors .ensures) (λ e. refl) (c .taken .ensures)
 
 pub gather-spec : {M : Type 1} → statement M
 gather-spec =

@@ -44,9 +44,9 @@ returns : tie.Need-returns
 returns c =
     let v = c .before .before .before .before .before in
     let m = v .before .before .before .before in
-    let a = m .before .before .before .before .args in
+    let a = m .before .before .before .before .before .args in
     gathered (bundleAsked (kindOf (a .mesh .kind)) (a .mesh .size) (a .source) (a .target)) (bundle-few (a .mesh .kind) (a .mesh .size) (a .source) (a .target))
-    (a .places .now) (a .counts .now) (failed (a .stopped .now)) (a .room) _ _ _ _ _ _ refl (m .most .ensures) (v .bundle-survivors .ensures) (λ e. bundle-many (kindOf (a .mesh .kind)) (a .mesh .size) (a .source) (a .target) (c .before .bundle-paths .ensures) e ∙ sym (length-replicate (meshOf (a .mesh .kind) (a .mesh .size) .links) (a .target))) (c .taken .ensures)
+    (a .places .now) (a .counts .now) (failed (a .stopped .now) (a .cuts .now)) (a .room) _ _ _ _ _ _ refl (m .most .ensures) (v .bundle-survivors .ensures) (λ e. bundle-many (kindOf (a .mesh .kind)) (a .mesh .size) (a .source) (a .target) (c .before .bundle-paths .ensures) e ∙ sym (length-replicate (meshOf (a .mesh .kind) (a .mesh .size) .links) (a .target))) (c .taken .ensures)
 
 pub gather-bundle-spec : {M : Type 1} → statement M
 gather-bundle-spec =

@@ -19,7 +19,7 @@ use Rattle.survivors.proofs.bundles.bundle_survivors.Statement.{stateme
 use Rattle.survivors.proofs.bundles.bundle_survivors.Tie as tie
 
 abbrev at : tie.After-judge-bundle-with → tie.Start
-at c = c .before .before .before .before .before .before .before .before .before
+at c = c .before .before .before .before .before .before .before .before .before .before
 
 abbrev asked : tie.Start → Asked
 asked s = bundleAsked (kindOf (s .args .mesh .kind)) (s .args .mesh .size) (s .args .source) (s .args .target)
@@ -43,7 +43,7 @@ fine : (c : tie.After-enum-told) → first (asked (at (c .before .before)) .faul
 fine c =
     let s = at (c .before .before) in
     let a = s .args in
-    judged-passed (asked s) (a .places .now) (a .counts .now) (failed (a .stopped .now)) (a .ends .now) (a .hops .now) (a .wholes .now) (clean c) .faultless
+    judged-passed (asked s) (a .places .now) (a .counts .now) (failed (a .stopped .now) (a .cuts .now)) (a .ends .now) (a .hops .now) (a .wholes .now) (clean c) .faultless
 
 many : (c : tie.After-enum-told) → let a = at (c .before .before) .args in c .before .before .before .before .bundle-paths .result ≡ meshOf (a .mesh .kind) (a .mesh .size) .links
 many c =
@@ -89,7 +89,7 @@ fill-requires c κs =
     let p = c .before .before .before .before in
     let s = at (p .before .before .before) in
     let a = s .args in
-    ready (asked s) (a .places .now) (a .counts .now) (failed (a .stopped .now)) (a .ends .now) (a .hops .now) (a .wholes .now) (clean (p .before)) (p .bundle-places-in .ensures) (cut (p .before))
+    ready (asked s) (a .places .now) (a .counts .now) (failed (a .stopped .now) (a .cuts .now)) (a .ends .now) (a .hops .now) (a .wholes .now) (clean (p .before)) (p .bundle-places-in .ensures) (cut (p .before))
 
 enum-known-verdict : tie.Need-enum-known-verdict
 enum-known-verdict c = search needs
@@ -112,20 +112,20 @@ returns c =
     let p = f .before .before .before .before .before in
     let s = at (p .before .before .before) in
     let a = s .args in
-    survived (asked s) (a .places .now) (a .counts .now) (failed (a .stopped .now)) (a .ends .now) (a .hops .now) (a .wholes .now) (clean (p .before)) (p .bundle-places-in .ensures) (cut (p .before))
+    survived (asked s) (a .places .now) (a .counts .now) (failed (a .stopped .now) (a .cuts .now)) (a .ends .now) (a .hops .now) (a .wholes .now) (clean (p .before)) (p .bundle-places-in .ensures) (cut (p .before))
     (f .fill .ensures)
 
 returns-2 : tie.Need-returns-2
 returns-2 c =
     let j = c .before .before .before in
     let a = at j .args in
-    found-survived (asked (at j)) (a .places .now) (a .counts .now) (failed (a .stopped .now)) (a .ends .now) (a .hops .now) (a .wholes .now) (c .before .verdict .given .1) (told j)
+    found-survived (asked (at j)) (a .places .now) (a .counts .now) (failed (a .stopped .now) (a .cuts .now)) (a .ends .now) (a .hops .now) (a .wholes .now) (c .before .verdict .given .1) (told j)
 
 returns-3 : tie.Need-returns-3
 returns-3 c =
     let j = c .before .before .before in
     let a = at j .args in
-    refused-survived (asked (at j)) (a .places .now) (a .counts .now) (failed (a .stopped .now)) (a .ends .now) (a .hops .now) (a .wholes .now) (c .before .verdict2 .given .1) (told j)
+    refused-survived (asked (at j)) (a .places .now) (a .counts .now) (failed (a .stopped .now) (a .cuts .now)) (a .ends .now) (a .hops .now) (a .wholes .now) (c .before .verdict2 .given .1) (told j)
 
 pub bundle-survivors-spec : {M : Type 1} → statement M
 bundle-survivors-spec =
