@@ -1,6 +1,6 @@
--- A number read byte by byte (`Reading`), and bytes written one after another (`put-more`, `put-none`). Assumes nothing.
-use Prim.Native.Nat.{ℕ, _+_, _-_, _*_, _/_, _%_, _^_, _≤_, _<_}
-use mathlib.Core.Path.{_≡_, sym, ap, ap₂, _∙_, subst}
+-- A number read byte by byte (`Reading`), and bytes written one after another (`put-more`, `put-none`), or eight at once (`put-eight`). Assumes nothing.
+use Prim.Native.Nat.{ℕ, zero, suc, _+_, _-_, _*_, _/_, _%_, _^_, _≤_, _<_}
+use mathlib.Core.Path.{_≡_, refl, sym, ap, ap₂, _∙_, subst}
 use mathlib.Core.List.{List, [], _∷_}
 use native.Mathlib.Nat.{pow-le-pow-right, pow-suc}
 use native.Mathlib.Numerals.{add-one}
@@ -49,3 +49,37 @@ put-more w less value at l e =
 pub put-none : (w value at : ℕ) (l : List ℕ) → w ≡ 0 → l ≡ sets l at (big w value)
 unfolding big
 put-none w value at l e = ap (λ (i : ℕ). sets l at (big i value)) (sym e)
+
+-- ---- eight bytes at once
+
+-- one byte more, behind those that are written
+behind : (w v at : ℕ) (l : List ℕ) {m : List ℕ} → m ≡ sets l at (big w (v / 256)) → set m (at + w) (v % 256) ≡ sets l at (big (w + 1) v)
+behind w v at l e = ap (λ (m : List ℕ). set m (at + w) (v % 256)) e ∙ put-more (w + 1) w v at l refl
+
+-- the numbers whose lowest bytes are the bytes of v
+abbrev pub over : (n v : ℕ) → ℕ
+over zero v = v
+over (suc n) v = over n v / 256
+
+pub put-eight : (v at : ℕ) (l : List ℕ)
+    → set
+    (set
+    (set
+    (set (set (set (set (set l at (over 7 v % 256)) (at + 1) (over 6 v % 256)) (at + 2) (over 5 v % 256)) (at + 3) (over 4 v % 256)) (at + 4) (over 3 v % 256))
+    (at + 5)
+    (over 2 v % 256))
+    (at + 6)
+    (over 1 v % 256))
+    (at + 7)
+    (v % 256)
+    ≡ sets l at (big 8 v)
+unfolding big
+put-eight v at l =
+    behind 7 v at l
+    (behind 6 (over 1 v) at l (behind 5 (over 2 v) at l (behind 4 (over 3 v) at l (behind 3 (over 4 v) at l (behind 2 (over 5 v) at l (behind 1 (over 6 v) at l refl))))))
+
+pub number-eight : (l : List ℕ) (at : ℕ)
+    → ((((((getD l at 0 * 256 + getD l (at + 1) 0) * 256 + getD l (at + 2) 0) * 256 + getD l (at + 3) 0) * 256 + getD l (at + 4) 0) * 256 + getD l (at + 5) 0) * 256 + getD l (at + 6) 0) * 256 + getD l (at + 7) 0
+    ≡ number l at 8
+unfolding number
+number-eight l at = let first : getD l (at + 0) 0 ≡ getD l at 0 = ap (λ (i : ℕ). getD l i 0) (omega arith) in omega (arith, first)

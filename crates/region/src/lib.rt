@@ -26,7 +26,7 @@ fn put_relay(relay: u64, out: &mut [u8]) -> u64
     if out.len() < 8 {
         return code(Refusal::NoRoom);
     }
-    octets::put(relay, 8, 0, out);
+    octets::put_eight(relay, 0, out);
     0
 }
 

@@ -15,7 +15,7 @@ fn put_relays(places: &[u64], from: usize, n: usize, at: usize, out: &mut [u8])
 {
     let mut i: usize = 0;
     while i < n {
-        octets::put(places[from + i], 8, at + i * 8, out);
+        octets::put_eight(places[from + i], at + i * 8, out);
         i += 1;
     }
 }

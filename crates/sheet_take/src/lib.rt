@@ -72,7 +72,7 @@ pub fn take_relays(bytes: &[u8], at: usize, n: usize, to: usize, places: &mut [u
 {
     let mut i: usize = 0;
     while i < n {
-        places[to + i] = octets::number(bytes, at + i * 8, 8);
+        places[to + i] = octets::number_eight(bytes, at + i * 8);
         i += 1;
     }
 }

@@ -6,7 +6,6 @@ use Rattle.region.proofs.put_relay.Tie as tie
 use Rattle.region.proofs.put_relay.Reads as reads
 use Rattle.region.proofs.put_relay.Lts as lts
 use Rattle.region.proofs.code.Reads as code-reads
-use Rattle.octets.proofs.put.Reads as put-reads
 
 code-requires : tie.Need-code-requires
 code-requires c κs = search needs
@@ -14,14 +13,14 @@ code-requires c κs = search needs
 returns : tie.Need-returns
 returns c = let a = c .before .before .before .args in put-short (a .relay) (a .out .now) (c .before .if1 .taken) (c .code .ensures)
 
-put-requires : tie.Need-put-requires
-put-requires c κs = search needs
+put-eight-requires : tie.Need-put-eight-requires
+put-eight-requires c κs = search needs
 
 same-length : tie.Need-same-length
 same-length c = search needs
 
 returns-2 : tie.Need-returns-2
-returns-2 c = let a = c .before .before .before .before .before .before .args in put-done (a .relay) (a .out .now) (c .before .before .before .before .if1 .left) (c .before .before .put .ensures)
+returns-2 c = let a = c .before .before .before .before .before .before .args in put-done (a .relay) (a .out .now) (c .before .before .before .before .if1 .left) (c .before .before .put-eight .ensures)
 
 pub put-relay-spec : {M : Type 1} → statement M
-put-relay-spec = tie.close (tie.spec code-requires returns put-requires same-length returns-2)
+put-relay-spec = tie.close (tie.spec code-requires returns put-eight-requires same-length returns-2)

@@ -8,7 +8,6 @@ use Rattle.sheet_put.proofs.put_relays.Statement.{statement}
 use Rattle.sheet_put.proofs.put_relays.Tie as tie
 use Rattle.sheet_put.proofs.put_relays.Reads as reads
 use Rattle.sheet_put.proofs.put_relays.Lts as lts
-use Rattle.octets.proofs.put.Reads as put-reads
 
 abbrev Inv-loop : tie.InvT-loop
 Inv-loop places from n at out₀ i₀ out i = Relayed places from n at out₀ out i
@@ -19,23 +18,23 @@ abbrev μ-loop : tie.MeasureT-loop
 loop-holds : tie.Need-loop-holds Inv-loop μ-loop
 loop-holds c = let a = c .before .before .args in relayed-starts (a .places .now) (a .from) (a .n) (a .at) (a .out .now)
 
-add-put : tie.Need-add-put Inv-loop μ-loop
-add-put c = search needs
+add-put-eight : tie.Need-add-put-eight Inv-loop μ-loop
+add-put-eight c = search needs
 
-mul-put : tie.Need-mul-put Inv-loop μ-loop
-mul-put c = search needs
+mul-put-eight : tie.Need-mul-put-eight Inv-loop μ-loop
+mul-put-eight c = search needs
 
-shared-slice-read-put : tie.Need-shared-slice-read-put Inv-loop μ-loop
-shared-slice-read-put c = search needs
+shared-slice-read-put-eight : tie.Need-shared-slice-read-put-eight Inv-loop μ-loop
+shared-slice-read-put-eight c = search needs
 
-mul-put-2 : tie.Need-mul-put-2 Inv-loop μ-loop
-mul-put-2 c = search needs
+mul-put-eight-2 : tie.Need-mul-put-eight-2 Inv-loop μ-loop
+mul-put-eight-2 c = search needs
 
-add-put-2 : tie.Need-add-put-2 Inv-loop μ-loop
-add-put-2 c = search needs
+add-put-eight-2 : tie.Need-add-put-eight-2 Inv-loop μ-loop
+add-put-eight-2 c = search needs
 
-put-requires : tie.Need-put-requires Inv-loop μ-loop
-put-requires c κs = search needs
+put-eight-requires : tie.Need-put-eight-requires Inv-loop μ-loop
+put-eight-requires c κs = search needs
 
 add-i : tie.Need-add-i Inv-loop μ-loop
 add-i c = search needs
@@ -44,7 +43,7 @@ loop-less : tie.Need-loop-less Inv-loop μ-loop
 loop-less c = search needs
 
 loop-again : tie.Need-loop-again Inv-loop μ-loop
-loop-again c = relayed-more (c .before .before .before .before .before .before .loop .inv) (c .before .before .before .before .before .loop-test .taken) refl (c .before .before .put .ensures)
+loop-again c = relayed-more (c .before .before .before .before .before .before .loop .inv) (c .before .before .before .before .before .loop-test .taken) refl (c .before .before .put-eight .ensures)
 
 same-length : tie.Need-same-length Inv-loop μ-loop
 same-length c = c .before .loop .inv .long
@@ -59,12 +58,12 @@ put-relays-spec =
     Inv-loop
     μ-loop
     loop-holds
-    add-put
-    mul-put
-    shared-slice-read-put
-    mul-put-2
-    add-put-2
-    put-requires
+    add-put-eight
+    mul-put-eight
+    shared-slice-read-put-eight
+    mul-put-eight-2
+    add-put-eight-2
+    put-eight-requires
     add-i
     loop-less
     loop-again

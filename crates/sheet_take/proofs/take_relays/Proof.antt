@@ -8,7 +8,6 @@ use Rattle.sheet_take.proofs.take_relays.Statement.{statement}
 use Rattle.sheet_take.proofs.take_relays.Tie as tie
 use Rattle.sheet_take.proofs.take_relays.Reads as reads
 use Rattle.sheet_take.proofs.take_relays.Lts as lts
-use Rattle.octets.proofs.number.Reads as number-reads
 
 abbrev Inv-loop : tie.InvT-loop
 Inv-loop bytes at n to places₀ i₀ places i = Running (relaysAt bytes at) to n places₀ places i
@@ -19,14 +18,14 @@ abbrev μ-loop : tie.MeasureT-loop
 loop-holds : tie.Need-loop-holds Inv-loop μ-loop
 loop-holds c = let a = c .before .before .args in running-starts (relays-run (a .bytes .now) (a .at)) (a .to) (a .n) (a .places .now)
 
-mul-number : tie.Need-mul-number Inv-loop μ-loop
-mul-number c = search needs
+mul-number-eight : tie.Need-mul-number-eight Inv-loop μ-loop
+mul-number-eight c = search needs
 
-add-number : tie.Need-add-number Inv-loop μ-loop
-add-number c = search needs
+add-number-eight : tie.Need-add-number-eight Inv-loop μ-loop
+add-number-eight c = search needs
 
-number-requires : tie.Need-number-requires Inv-loop μ-loop
-number-requires c κs = search needs
+number-eight-requires : tie.Need-number-eight-requires Inv-loop μ-loop
+number-eight-requires c κs = search needs
 
 add-places : tie.Need-add-places Inv-loop μ-loop
 add-places c = search needs
@@ -44,7 +43,7 @@ loop-less : tie.Need-loop-less Inv-loop μ-loop
 loop-less c = search needs
 
 loop-again : tie.Need-loop-again Inv-loop μ-loop
-loop-again c = let a = c .before .before .before .before .before .args in running-more (relays-run (a .bytes .now) (a .at)) (c .before .before .loop .inv) (c .before .loop-test .taken) (c .number .ensures)
+loop-again c = let a = c .before .before .before .before .before .args in running-more (relays-run (a .bytes .now) (a .at)) (c .before .before .loop .inv) (c .before .loop-test .taken) (c .number-eight .ensures)
 
 same-length : tie.Need-same-length Inv-loop μ-loop
 same-length c = c .before .loop .inv .long
@@ -59,9 +58,9 @@ take-relays-spec =
     Inv-loop
     μ-loop
     loop-holds
-    mul-number
-    add-number
-    number-requires
+    mul-number-eight
+    add-number-eight
+    number-eight-requires
     add-places
     mul-places
     slice-write-places
