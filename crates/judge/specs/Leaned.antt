@@ -5,21 +5,20 @@ use Prim.Native.Nat.{ℕ, zero, suc, _+_, _*_, _≤_, _<_}
 use mathlib.Core.Path.{_≡_, refl, sym, ap, _∙_, subst}
 use mathlib.Core.Bool.{Bool, true, false}
 use mathlib.Core.Logic.{_≢_}
-use mathlib.Core.List.{List, [], _∷_, _++_}
+use mathlib.Core.List.{List, [], _∷_}
 use mathlib.Core.Option.{none}
 use native.Mathlib.Omega.{arith}
-use lib.Dec.{ltb}
 use lib.ListN.{length, drop, getD, length-append, length-drop}
 use borrow.Author.Tests.{ne-eqb, lt-leb, le-ltb}
 use Rattle.scan.specs.Scan.{nowhere}
 use Rattle.scan.specs.Laws.{none-seek, false-among}
 use Rattle.answers.specs.Order.{isOut, isSame, isAgain, firstAt}
 use Rattle.answers.specs.Told.{told}
-use Rattle.paths.specs.Mesh.{Mesh, width}
+use Rattle.paths.specs.Mesh.{width}
 use Rattle.paths.specs.Fan.{filler, Fan, hops}
 use Rattle.paths.specs.Walk.{node}
 use Rattle.paths.specs.Walk as walk
-use Rattle.paths.specs.Walks.{node-start, route-length}
+use Rattle.paths.specs.Walks.{route-length}
 use Rattle.paths.specs.Routed.{Routed}
 use Rattle.mesh.specs.Kinds.{kindOf, meshOf, known}
 use Rattle.mesh.specs.Laws.{known-near}

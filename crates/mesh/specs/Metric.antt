@@ -5,13 +5,13 @@ use Prim.Native.Nat.{ℕ, _+_, _≤_, _<_}
 use mathlib.Core.Path.{_≡_, refl, sym, ap, ap₂, _∙_, subst}
 use mathlib.Core.Bool.{Bool, true, false, not}
 use mathlib.Core.List.{List, _++_}
-use mathlib.Core.Option.{Option, none}
+use mathlib.Core.Option.{Option}
 use lib.ListN.{length, getD}
 use borrow.Author.Tests.{not-false, ltb-false}
 use Rattle.scan.specs.Laws.{true-false}
-use Rattle.answers.specs.Order.{first, refuse, refuse-none, sizeFaults, distanceFaults, pairFaults}
+use Rattle.answers.specs.Order.{first, refuse-none, sizeFaults, distanceFaults, pairFaults}
 use Rattle.answers.specs.Pairs.{pair-sound, pair-fine}
-use Rattle.answers.specs.Told.{Told, told, tell}
+use Rattle.answers.specs.Told.{told, tell}
 use Rattle.answers.specs.declared.Refusal.{Refusal}
 use Rattle.answers.specs.declared.Refusal.the-variants.{UnknownSize, NoDistance}
 use Rattle.paths.specs.Fan.{Fan, hops}

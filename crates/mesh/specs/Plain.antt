@@ -1,17 +1,17 @@
 -- Plain routes over every kind. In every mesh that there is, a route is one within the longest path (`known-routed`). So a route that is told visits no relay
 -- twice (`route-once`), and what it leaves in a slice of fillers is a fan of one target (`route-fan`). Assumes nothing.
 use Prim.Native.Nat.{ℕ, _+_, _≤_, _<_}
-use mathlib.Core.Path.{_≡_, refl, sym, ap, ap₂, _∙_, subst}
-use mathlib.Core.Bool.{true, false}
+use mathlib.Core.Path.{_≡_, refl, sym, ap, _∙_, subst}
+use mathlib.Core.Bool.{true}
 use mathlib.Core.List.{List, [], _∷_, _++_}
 use mathlib.Core.Option.{Option, none, some}
 use native.Mathlib.Omega.{arith}
 use lib.Dec.{leb}
 use lib.ListN.{length, drop, getD, List·getD-append}
 use borrow.Author.Tests.{eqb-false, leb-false}
-use Rattle.answers.specs.Order.{first, append-none, refuse-none, pairFaults, roomFaults}
+use Rattle.answers.specs.Order.{append-none, refuse-none, pairFaults, roomFaults}
 use Rattle.answers.specs.Pairs.{pair-sound}
-use Rattle.answers.specs.Told.{Told, told, tell, leaves, number, numberOf, valueOf}
+use Rattle.answers.specs.Told.{told, tell, leaves, number, numberOf, valueOf}
 use Rattle.answers.specs.Laws.{number-some}
 use Rattle.answers.specs.declared.Refusal.{Refusal}
 use Rattle.answers.specs.declared.Refusal.the-variants.{NoRoom}

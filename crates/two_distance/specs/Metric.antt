@@ -2,10 +2,8 @@
 -- `distance-home`), at most the sum by way of any third relay (`distance-by`), and at most the hops of any way (`distance-least`), so of any path of a fan
 -- (`distance-fan`) or bundle (`distance-bundle`), and of the plain route (`distance-route`). With examples. Assumes nothing.
 use Prim.Native.Nat.{ℕ, _+_, _≤_, _<_}
-use mathlib.Core.Path.{_≡_, refl, _∙_}
+use mathlib.Core.Path.{_≡_}
 use mathlib.Core.List.{List}
-use native.Mathlib.Omega.{arith}
-use lib.Bits.{bitXor}
 use lib.ListN.{length, getD}
 use Rattle.paths.specs.Fan as fan
 use Rattle.paths.specs.Fan.{Fan}
