@@ -276,6 +276,16 @@ def large():
     yield 2, 5, 0, [mesh.relays - 1], places[:9] + [places[8]] + places[10:], counts, [], (1, 1, 1)
 
 
+def routes():
+    """Plain routes, each a fan of one: short and long in cubes, the most hops in each order; and a fan whose path of 6 hops ends at distance 2."""
+    for kind, size, s, t in (
+        (1, 1, 1, 0), (1, 8, 0, 255), (1, 32, 2**32 - 1, 0), (2, 1, 1, 6), (2, 2, 3, 61), (2, 2, 23, 0), (2, 3, 7, 2043), (2, 4, 15, 1048567), (2, 5, 31, 137438953455)
+    ):
+        mesh = mesh_of(kind, size)
+        yield kind, size, s, [t], *laid(mesh, [mesh.route(s, t)]), [], (1, 1, 1)
+    yield 2, 1, 0, [5, 1], *laid(mesh_of(2, 1), [[0, 2, 3, 7, 6, 4, 5], [0, 1]]), [], (2, 2, 2)
+
+
 def severed():
     """Fans with links cut: each of a path's links, at its source too, in either order, again, with others; pairs that are no link, and lists with a last
     number that has no partner. Then cuts where something is found or there is no room."""
@@ -309,7 +319,7 @@ def severed():
 
 
 def cases():
-    for old in (refusals(), stops(), damage(), large()):
+    for old in (refusals(), stops(), damage(), large(), routes()):
         for *case, room in old:
             yield *case, [], room
     yield from severed()

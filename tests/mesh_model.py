@@ -116,3 +116,10 @@ def cases():
         yield 2, m, s, t, 2 ** (m + 1) + 2 * m
     for t in range(8):
         yield 2, 1, 0, t, 8
+    # the same distance from either end, 4 for 0 and 23 though routes have 4 and 6 hops, and 2 + 2 by way of 6; the farthest relays from 0 and back
+    for s, t in ((0, 6), (6, 0), (6, 23), (23, 6), (60, 0), (63, 0)):
+        yield 2, 2, s, t, 12
+    for t in (2043, 2045, 2046):
+        yield 2, 3, 0, t, 22
+    for s in (2040, 2043, 2045, 2046):
+        yield 2, 3, s, 0, 22

@@ -4,6 +4,7 @@ pub mod Route
 pub mod Says
 pub mod Links
 pub mod Routes
+pub mod Once
 pub mod Sizes
 pub mod Half
 pub mod Unique

@@ -7,4 +7,5 @@ pub mod Search
 pub mod Unique
 pub mod Numbers
 pub mod Judged
+pub mod Leaned
 pub mod Alike

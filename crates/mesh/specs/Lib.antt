@@ -3,5 +3,7 @@ pub mod Kinds
 pub mod Says
 pub mod Laws
 pub mod Limits
+pub mod Plain
+pub mod Metric
 pub mod Requests
 pub mod Unique

@@ -19,6 +19,8 @@ pub mod Walks
 pub mod Walked
 pub mod Ends
 pub mod Ways
+pub mod Metric
+pub mod Routed
 pub mod Links
 pub mod Bundle
 pub mod Bundles

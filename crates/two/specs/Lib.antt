@@ -3,6 +3,7 @@ pub mod Next
 pub mod Crossing
 pub mod Ordered
 pub mod Steps
+pub mod Once
 pub mod Turns
 pub mod Says
 pub mod Needs

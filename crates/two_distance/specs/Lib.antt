@@ -4,4 +4,5 @@ pub mod Tables
 pub mod Tested
 pub mod Says
 pub mod Moved
+pub mod Metric
 pub mod Cases
