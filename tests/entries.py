@@ -1,5 +1,5 @@
 #!/usr/bin/env python3
-"""The survivors of a fan in one list of entries: the cases of judge_model.py, run through crates/entries by a program of its own.
+"""The survivors of a fan, and of a bundle, in one list of entries: the cases of judge_model.py and bundle_model.py, run through crates/entries by a program of its own.
 
     python3 tests/entries.py
 
@@ -11,11 +11,13 @@ import subprocess
 import sys
 import tempfile
 
+import bundle_model
 import partial
 from judge_model import WORD, asked, cases, fan, survivors
 
 PROGRAM = """
-// A case at a time: kind, size and source; targets, places, counts, stopped relays and cuts, each with its length before it; how many entries are lent.
+// A case at a time: 0 for a fan or 1 for a bundle; kind, size and source; targets, places, counts, stopped relays and cuts, each with its length before it; how many
+// entries are lent.
 // A line has what is told, the count, and the entries, all (9, 9, 1) before, as they are afterwards.
 use entries::Entry;
 use mesh::Mesh;
@@ -29,10 +31,14 @@ fn put_entry(e: Entry) {
     put(if e.whole { 1 } else { 0 });
 }
 
-fn tell(mesh: Mesh, source: u64, targets: &[u64], places: &[u64], counts: &[u64], stopped: &[u64], cuts: &[u64], room: usize) {
+fn tell(mode: u64, mesh: Mesh, source: u64, targets: &[u64], places: &[u64], counts: &[u64], stopped: &[u64], cuts: &[u64], room: usize) {
     let mut out = [Entry { target: 9, hops: 9, whole: true }; 40];
     let n = script::least(room, 40);
-    let t = entries::survivors(mesh, source, targets, places, counts, stopped, cuts, &mut out[..n]);
+    let t = if mode == 0 {
+        entries::survivors(mesh, source, targets, places, counts, stopped, cuts, &mut out[..n])
+    } else {
+        entries::bundle_survivors(mesh, source, item(targets, 0), places, counts, stopped, cuts, &mut out[..n])
+    };
     put(t.number());
     put(t.path() as u64);
     put(t.place() as u64);
@@ -45,7 +51,8 @@ fn tell(mesh: Mesh, source: u64, targets: &[u64], places: &[u64], counts: &[u64]
     script::text(b"\\n");
 }
 
-fn case(list: &[u64], at: usize) -> usize {
+fn case(list: &[u64], from: usize) -> usize {
+    let at = from + 1;
     let mesh = Mesh { kind: item(list, at), size: item(list, at + 1) };
     let targets = run(list, at + 3);
     let b = at + 4 + targets.len();
@@ -57,13 +64,13 @@ fn case(list: &[u64], at: usize) -> usize {
     let e = d + 1 + stopped.len();
     let cuts = run(list, e);
     let f = e + 1 + cuts.len();
-    tell(mesh, item(list, at + 2), targets, places, counts, stopped, cuts, item(list, f) as usize);
+    tell(item(list, from), mesh, item(list, at + 2), targets, places, counts, stopped, cuts, item(list, f) as usize);
     f + 1
 }
 
 fn main() {
-    let mut bytes = io::large_buffer();
-    let mut list = [0u64; 32768];
+    let mut bytes = [0u8; 131072];
+    let mut list = [0u64; 65536];
     let n = io::read_full(0, &mut bytes);
     let k = script::numbers(&bytes[..n], &mut list);
     let mut at: usize = 0;
@@ -85,11 +92,17 @@ def listed():
     yield 1, 3, 0, [7, 1, 1], places, counts, [], [], 2
 
 
-def answered(*case):
-    *rest, room = case
-    told, count, columns = survivors(*rest, (room,) * 3)
+def answered(told, count, columns):
     entries = [[t, h, 1 if w == 9 else w] for t, h, w in zip(*columns)]
     return "".join(f" {x}" for x in [*told, count, *sum(entries, [])])
+
+
+def lines():
+    """What is asked and what is to be answered, of fans and then of bundles."""
+    for *case, room in listed():
+        yield "0 " + asked(*case, (room,)), answered(*survivors(*case, (room,) * 3))
+    for kind, size, s, t, *case, room in bundle_model.cases():
+        yield "1 " + asked(kind, size, s, [t], *case, (room,)), answered(*bundle_model.survivors(kind, size, s, t, *case, (room,) * 3))
 
 
 def prepare(folder):
@@ -98,12 +111,9 @@ def prepare(folder):
     crate = os.path.dirname(sources)
     with open(os.path.join(sources, "main.rt"), "w", encoding="utf-8") as source:
         source.write(PROGRAM)
-    with open(os.path.join(crate, "stdin"), "w", encoding="utf-8") as lines:
-        for *case, room in listed():
-            lines.write(asked(*case, (room,)) + "\n")
-    with open(os.path.join(crate, "stdout"), "w", encoding="utf-8") as lines:
-        for case in listed():
-            lines.write(answered(*case) + "\n")
+    for name, part in (("stdin", 0), ("stdout", 1)):
+        with open(os.path.join(crate, name), "w", encoding="utf-8") as out:
+            out.writelines(line[part] + "\n" for line in lines())
 
 
 def main():
@@ -112,7 +122,7 @@ def main():
         done = subprocess.run(["rt", "try", "entries_cases"], cwd=folder, capture_output=True, text=True, check=False)
         if done.returncode != 0:
             sys.exit(f"entries: FAILED\n{(done.stdout + done.stderr)[-2000:]}")
-    print(f"entries: {len(list(listed()))} lists are as the model has them")
+    print(f"entries: {len(list(lines()))} lists are as the models have them")
 
 
 if __name__ == "__main__":
