@@ -102,11 +102,14 @@ void judged(const Bundle &b, const Failed &fails, size_t e, size_t h, size_t w) 
 
 void judged(const Bundle &b, const Failed &fails) { judged(b, fails, b.mesh.links(), b.mesh.links(), b.mesh.links()); }
 
+// Failures over the paths of a bundle.
+Failed some(const Bundle &b) { return failed(b.mesh, b.places, b.counts, width(b.mesh)); }
+
 // A good bundle: with relays stopped and links cut, with columns too short, and damaged.
 void tried(const Bundle &good, int damages) {
   const Mesh &mesh = good.mesh;
   const size_t k = mesh.links(), w = width(mesh);
-  const Failed fails = failed(mesh, good.places, good.counts, w);
+  const Failed fails = some(good);
   judged(good, {{}, fails.cuts});
   judged(good, {}, k + 2, k + 1, k + 3);
   judged(good, {{good.source}, fails.cuts});
@@ -146,7 +149,7 @@ void tried(const Bundle &good, int damages) {
 void pair(const Mesh &mesh, uint64_t s, uint64_t t, uint64_t in, int damages) {
   const Bundle b = bundle(mesh, s, t);
   if (b.counts.empty()) return;
-  judged(b, failed(mesh, b.places, b.counts, width(mesh)));
+  judged(b, some(b));
   if (below(in) == 0) tried(b, damages);
 }
 
