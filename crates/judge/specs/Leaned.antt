@@ -1,5 +1,5 @@
 -- What the judge passes, beside distances and plain routes. No path of a fan that it passes has fewer hops than the distance that is told between its ends
--- (`judged-least`); and a plain route that is told, of two relays in a mesh of any size and kind, written over a slice of fillers, is a fan of one target that
+-- (`judged-least`; of a bundle `judged-bundle-least`); and a plain route that is told, of two relays in a mesh of any size and kind, written over a slice of fillers, is a fan of one target that
 -- it passes (`route-judged`). Assumes nothing.
 use Prim.Native.Nat.{ℕ, zero, suc, _+_, _*_, _≤_, _<_}
 use mathlib.Core.Path.{_≡_, refl, sym, ap, _∙_, subst}
@@ -24,9 +24,9 @@ use Rattle.mesh.specs.Kinds.{kindOf, meshOf, known}
 use Rattle.mesh.specs.Laws.{known-near}
 use Rattle.mesh.specs.Says.{routeTold, routeLeaves}
 use Rattle.mesh.specs.Plain.{Left, route-left, route-fan}
-use Rattle.mesh.specs.Metric.{Far, told-fan}
-use Rattle.judge.specs.Says.{verdictTold, judgeAgainst, judgeTold}
-use Rattle.judge.specs.Judged.{judged-fan, fan-judged}
+use Rattle.mesh.specs.Metric.{Far, told-fan, told-bundle}
+use Rattle.judge.specs.Says.{verdictTold, judgeAgainst, judgeTold, bundleTold}
+use Rattle.judge.specs.Judged.{judged-fan, fan-judged, judged-bundle}
 use Rattle.judge.specs.declared.Verdict.{Verdict}
 use Rattle.judge.specs.declared.Verdict.the-variants as verdict
 
@@ -35,6 +35,12 @@ pub judged-least : (k n s : ℕ) (targets places counts : List ℕ) (lacking : B
     → (i d : ℕ) → i < length targets → Far k n s (getD targets i 0) d → d ≤ hops counts i
 judged-least k n s targets places counts lacking v says e i d h far =
     told-fan k n s (getD targets i 0) d targets places counts i far (judged-fan (kindOf k) n s targets places counts lacking v says e .1) h refl
+
+pub judged-bundle-least : (k n s t : ℕ) (places counts : List ℕ) (lacking : Bool) (v : Verdict)
+    → verdictTold v ≡ bundleTold (kindOf k) n s t places counts lacking → v ≡ verdict.Fan
+    → (i d : ℕ) → i < meshOf k n .links → Far k n s t d → d ≤ hops counts i
+judged-bundle-least k n s t places counts lacking v says e i d h far =
+    told-bundle k n s t d places counts i far (judged-bundle (kindOf k) n s t places counts lacking v says e .1) h
 
 -- ---- a request of one target
 
