@@ -79,7 +79,7 @@ def bundle(kind, size, s, t):
 
 def cases():
     """Kind, size, source, target, places, counts, stopped, cuts, room: whole, failed, damaged at every place, and refused."""
-    for kind, size, s, t in ((1, 1, 0, 1), (1, 2, 0, 1), (1, 2, 0, 3), (1, 3, 5, 2), (2, 1, 0, 5), (2, 1, 0, 1)):
+    for kind, size, s, t in ((1, 1, 0, 1), (1, 2, 0, 1), (1, 2, 0, 3), (2, 1, 0, 5)):
         mesh = mesh_of(kind, size)
         places, counts = bundle(kind, size, s, t)
         k = mesh.links

@@ -340,7 +340,7 @@ void fans() {
         const size_t w = mesh.width();
         for (int f = 0; f < 1 + (int)below(2); ++f) {
           const size_t at = below(bad.places.size()), row = below(k);
-          switch (below(12)) {
+          switch (below(13)) {
             case 0: bad.places[at] = dice(); break;
             case 1: bad.places[at] = below(mesh.relays()); break;
             case 2: bad.places[at] = bad.places[below(bad.places.size())]; break;
@@ -353,6 +353,13 @@ void fans() {
             case 9: bad.mesh = below(2) ? Mesh{mesh.kind, mesh.size + 1} : Mesh{below(4), mesh.size}; break;
             case 10: bad.targets.clear(); break;
             case 11: bad.targets.resize(mesh.links() + 1, bad.targets[0]); break;
+            case 12:  // a path that turns back at its first relay, and goes on
+              if (good.counts[row] + 2 <= mesh.longest()) {
+                std::copy(good.places.begin() + row * w, good.places.begin() + row * w + w - 2, bad.places.begin() + row * w + 2);
+                bad.places[row * w + 1] = good.places[row * w + 1];
+                bad.counts[row] = good.counts[row] + 2;
+              }
+              break;
           }
           if (bad.counts.size() < k || bad.places.size() < k * w || bad.targets.size() < k) break;
         }

@@ -120,7 +120,10 @@ inline void answered(const char *what, const Mesh &mesh, uint64_t s, const GustA
 inline void all_met(const std::map<std::string, std::set<uint64_t>> &every) {
   for (const auto &[call, numbers] : every)
     if (met[call] != numbers) {
-      std::printf("FAILED: %s was met with %zu of %zu numbers\n", call.c_str(), met[call].size(), numbers.size());
+      std::printf("FAILED: %s was met with %zu of %zu numbers, not with", call.c_str(), met[call].size(), numbers.size());
+      for (uint64_t n : numbers)
+        if (!met[call].count(n)) std::printf(" %llu", (unsigned long long)n);
+      std::printf("\n");
       std::exit(1);
     }
 }
