@@ -149,7 +149,7 @@ def writer_cases(some):
 def damaged(data):
     """Each byte changed; bytes cut off and bytes too many, with the length field as it was and made right."""
     for at, old in enumerate(data):
-        for new in sorted({0, 1, 2, 255, old ^ 1} - {old}):
+        for new in sorted({0, 1, 2, 3, 4, 5, 7, 8, 64, 128, 255, old ^ 1, old ^ 2, old ^ 4} - {old}):
             yield data[:at] + [new] + data[at + 1:]
     for n in range(len(data)):
         yield data[:n]
@@ -290,9 +290,17 @@ def worked():
     case_i = sheet(1, 1, 0, [[1]])
     assert in_hex(case_i) == "00 00 00 16 01 01 01 01 " + "00 " * 8 + "00 01 " + "00 " * 7 + "01"
     page = os.path.join(os.path.dirname(__file__), "..", "docs", "SHEETS.md")
-    blocks = re.findall(r"```\n(.*?)```", open(page, encoding="utf-8").read(), re.S)
+    text = open(page, encoding="utf-8").read()
+    blocks = re.findall(r"```\n(.*?)```", text, re.S)
     shown = [" ".join(re.findall(r"\b[0-9a-f]{2}\b", "\n".join(line[:32] for line in block.split("\n")))) for block in blocks]
-    assert shown == [in_hex(case_i), in_hex(sheet(1, 2, 0, [[2, 3], [1]]))], shown
+    second = sheet(1, 2, 0, [[2, 3], [1]])
+    assert shown == [in_hex(case_i), in_hex(second)], shown
+    # the table of damaged sheets: number, path and place, and the byte that is changed in the second sheet
+    rows = re.findall(r"^\| (\d+) \| (\d+) \| (\d+) \| byte (\d+) set to ([0-9a-f]{2}) \|", text, re.M)
+    for *told, at, value in rows:
+        bad = list(second[:int(at)] + bytes([int(value, 16)]) + second[int(at) + 1:])
+        assert list(read(bad, *([HELD] * 99,) * 3)[0][:3]) == [int(n) for n in told], (told, at, value)
+    assert {int(row[0]) for row in rows} == {30, 31, 32, 33, 34, 36, 2, 5, 6, 7, 22, 24}, rows
 
 
 def small():
