@@ -65,7 +65,7 @@ enum {
   GUST_NO_MESH = 32,         /* no such kind or size */
   GUST_PATHS = 33,           /* no path, or more than a relay has links */
   GUST_HOPS = 34,            /* a path with no hops, or more than the longest has; its path */
-  GUST_NOT_A_FAN = 35,       /* the request or the paths fail the judge */
+  GUST_NOT_A_FAN = 35,       /* what is to be written fails the judge */
   GUST_LEFT_OVER = 36,       /* bytes are left over */
   /* Frames that arrive: */
   GUST_FRAME_SEEN = 41,      /* a frame of this number was passed before */
@@ -164,7 +164,8 @@ GustAnswer gust_write_sheet(uint64_t kind, uint64_t size, uint64_t source, const
 
 /* Reads one sheet, all of `bytes`: fills places, counts and targets with its k paths as said above; elements beyond them stay as they were. Returns kind, size,
  * source and k. Numbers, in this order: 30 (fewer than 16 bytes, or a wrong length field), 31, 32, 33, 8 where there are fewer than k * W places, k counts or
- * k targets; path by path 30 (its two bytes of hops are missing), 34, 30 (its relays run out); 36; 35. */
+ * k targets; path by path 30 (its two bytes of hops are missing), 34 with its path, 30 (its relays run out); 36; 2; 5, 6, 7, each with its place, which is the
+ * path that ends in that target; 22 and 24 path by path, with path and place. docs/SHEETS.md says what to mend. */
 GustReading gust_read_sheet(const uint8_t *bytes, size_t bytes_len, uint64_t *places, size_t places_len, uint64_t *counts, size_t counts_len,
                             uint64_t *targets, size_t targets_len);
 

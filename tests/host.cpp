@@ -378,7 +378,7 @@ void read(const Bytes &bytes, size_t p, size_t c, size_t t) {
   const bool ok = r.told.number == 0;
   numbered("reader", r.mesh, r.source, g.number, r.told.number);
   same("reader: path", r.mesh, r.source, g.path, r.told.path);
-  same("reader: place", r.mesh, r.source, g.place, 0);
+  same("reader: place", r.mesh, r.source, g.place, r.told.place);
   same("reader: kind", r.mesh, r.source, g.kind, ok ? r.mesh.kind : 0);
   same("reader: size", r.mesh, r.source, g.size, ok ? r.mesh.size : 0);
   same("reader: source", r.mesh, r.source, g.source, ok ? r.source : 0);
@@ -466,7 +466,7 @@ int main(int count, char **words) {
              {"judge", found},
              {"survivors", found},
              {"writer", {0, 8, 35}},
-             {"reader", {0, 8, 30, 31, 32, 33, 34, 35, 36}}});
+             {"reader", {0, 2, 5, 6, 7, 8, 22, 24, 30, 31, 32, 33, 34, 36}}});
   std::printf("host: %llu comparisons, all the same\n", compared);
   return 0;
 }

@@ -252,9 +252,9 @@ struct Reading {
 // What the reader says of bytes, with so many places, counts and places for targets.
 inline Reading read(const Bytes &bytes, size_t places, size_t counts, size_t targets) {
   Reading r;
-  const auto flaw = [](uint64_t n, uint64_t path = 0) {
+  const auto flaw = [](uint64_t n, uint64_t path = 0, uint64_t place = 0) {
     Reading bad;
-    bad.told = {n, path, 0};
+    bad.told = {n, path, place};
     return bad;
   };
   if (bytes.size() < 16 || number(bytes, 0, 4) != bytes.size() - 4) return flaw(30);
@@ -280,7 +280,8 @@ inline Reading read(const Bytes &bytes, size_t places, size_t counts, size_t tar
     r.places.resize((i + 1) * w, kUnused);
   }
   if (at != bytes.size()) return flaw(36);
-  if (r.mesh.judge(r.source, r.targets, r.places, r.counts).number) return flaw(35);
+  const Told told = r.mesh.judge(r.source, r.targets, r.places, r.counts);
+  if (told.number) return flaw(told.number, told.path, told.place);
   return r;
 }
 

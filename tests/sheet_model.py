@@ -62,9 +62,9 @@ def paths_of(data, k, longest):
 
 
 def read(data, places, counts, targets):
-    """Number and path; kind, size, source and how many paths; and the lent slices afterwards."""
-    def refused(number, path=0):
-        return (number, path, 0, 0, 0, 0), places, counts, targets
+    """Number, path and place; kind, size, source and how many paths; and the lent slices afterwards."""
+    def refused(number, path=0, place=0):
+        return (number, path, place, 0, 0, 0, 0), places, counts, targets
 
     data = bytes(data)
     if len(data) < 16 or int.from_bytes(data[:4], "big") != len(data) - 4:
@@ -86,9 +86,10 @@ def read(data, places, counts, targets):
         return refused(*wrong)
     rows, hops = laid(mesh, [[s] + path for path in paths])
     ends = [path[-1] for path in paths]
-    if judge(kind, size, s, ends, rows, hops)[0]:
-        return refused(35)
-    return (0, 0, kind, size, s, k), rows + places[k * width:], hops + counts[k:], ends + targets[k:]
+    told = judge(kind, size, s, ends, rows, hops)
+    if told[0]:
+        return refused(*told)
+    return (0, 0, 0, kind, size, s, k), rows + places[k * width:], hops + counts[k:], ends + targets[k:]
 
 
 # ---- the cases
@@ -148,7 +149,7 @@ def writer_cases(some):
 def damaged(data):
     """Each byte changed; bytes cut off and bytes too many, with the length field as it was and made right."""
     for at, old in enumerate(data):
-        for new in sorted({0, 1, 2, 255, old ^ 1} - {old}):
+        for new in sorted({0, 1, 2, 3, 4, 5, 7, 8, 64, 128, 255, old ^ 1, old ^ 2, old ^ 4} - {old}):
             yield data[:at] + [new] + data[at + 1:]
     for n in range(len(data)):
         yield data[:n]
@@ -156,6 +157,42 @@ def damaged(data):
     for more in ([0], [0, 1], [0, 1] + [0] * 8):
         yield data + more
         yield with_length(data + more)
+
+
+def spoiled(kind, size, s, targets, places, counts):
+    """The sheet with what the judge finds fault with, on the first path and the last, at the first place and the last; and with two such faults."""
+    mesh, k = mesh_of(kind, size), len(targets)
+    width = mesh.longest + 1
+    paths = [places[i * width + 1: i * width + 1 + counts[i]] for i in range(k)]
+
+    def with_path(i, path):
+        return paths[:i] + [path] + paths[i + 1:]
+
+    def with_relay(i, p, relay):
+        return with_path(i, paths[i][:p] + [relay] + paths[i][p + 1:])
+
+    out = mesh.relays
+    for wrong in (out, WORD):
+        yield wrong, paths
+        yield wrong, with_relay(k - 1, -1 % counts[k - 1], s)
+    for i in sorted({0, k - 1}):
+        path, other = paths[i], paths[k - 1 - i]
+        for p in sorted({0, len(path) - 1}):
+            before = path[p - 1] if p else s
+            far = next((x for x in range(out) if x not in (before, s, *targets) and not mesh.linked(before, x)), before)
+            for relay in (out, WORD, s, before, far, other[-1]):
+                yield s, with_relay(i, p, relay)
+        # a step back to the relay before, and on again or not: 24 at the second place, and at the last
+        yield s, with_path(i, path[:1] + [s] + path)
+        yield s, with_path(i, path + [path[-2] if len(path) > 1 else s])
+        yield s, with_path(i, path + path[-2:-1] + path[-1:])
+        # the way of the other path, and one more step of it or of its own
+        yield s, with_path(i, other[:-1] or path)
+        yield s, with_path(i, other + path[-1:])
+        # two faults: a target before a finding, 5 before 6 before 7, the first path before the second
+        yield s, [[s]] + paths[1:-1] + [[out]] if k > 1 else [[out, s]]
+        yield s, [[other[-1]]] + paths[1:-1] + [[s]] if k > 1 else [[s, s]]
+        yield s, [paths[0][:1] + [s] + paths[0]] + paths[1:-1] + [[other[-1], path[-1]]] if k > 1 else [[path[0], s, path[0], out]]
 
 
 def reader_cases(some, damage):
@@ -168,6 +205,11 @@ def reader_cases(some, damage):
         yield data[:16] + [0, 0] + data[18:], (n, k, k)
         yield with_length(data[:16] + [255, 255] + data[18:20]), (n, k, k)
         yield with_length(data[:-1]), (n, k, k)
+        # what the judge finds fault with, and room before it
+        for source, paths in spoiled(kind, size, s, targets, places, counts):
+            if all(len(path) <= mesh_of(kind, size).longest for path in paths):
+                yield list(sheet(kind, size, source, paths)), (n, k, k)
+        yield list(sheet(kind, size, mesh_of(kind, size).relays, [[s]] * k)), (n - 1, k, k)
         # each number of paths, kinds and sizes, one at a time
         for at in (5, 6, 7):
             for value in (0, 1, 2, 3, 4, 5, 6, 32, 33, 255) if damage else (0, 3, 33):
@@ -211,21 +253,31 @@ def there_and_back():
     for kind, size, s, targets, places, counts in fans():
         k, n = len(targets), len(places)
         told, *slices = read(bytes_of(kind, size, s, targets, places, counts), *([HELD] * (m + 1) for m in (n, k, k)))
-        assert told == (0, 0, kind, size, s, k), (kind, size, s, targets)
+        assert told == (0, 0, 0, kind, size, s, k), (kind, size, s, targets)
         assert slices == [places + [HELD], counts + [HELD], targets + [HELD]], (kind, size, s, targets)
 
 
 def back_and_there():
-    """A sheet that is accepted writes back to the same bytes; how many were, and the numbers of the others."""
-    accepted, numbers = 0, set()
+    """A sheet that is accepted writes back to the same bytes; how many were. The others meet every number that can come out of a sheet, and no other, the
+    judge's on the first path and the last, at the first place and the last."""
+    accepted, met = 0, set()
     for data, room in reader_cases(list(fans()), True):
-        (number, _, kind, size, s, k), places, counts, targets = read(data, *([HELD] * n for n in room))
-        numbers.add(number)
+        (number, path, place, kind, size, s, k), places, counts, targets = read(data, *([HELD] * n for n in room))
+        met.add((number, "", ""))
         if number == 0:
             accepted += 1
             number, n, out = write(kind, size, s, targets[:k], places, counts, [LENT_BYTE] * (len(data) + 1))
             assert (number, n, out) == (0, len(data), data + [LENT_BYTE]), data
-    assert numbers == {0, 8, 30, 31, 32, 33, 34, 35, 36}, numbers
+        elif number in (5, 6, 7):
+            met.add((number, "", "first" if place == 0 else "last" if place == data[7] - 1 else "between"))
+        elif number in (22, 24):
+            hops = len(paths_of(bytes(data), data[7], WORD)[0][path])
+            for where in ({"first"} if place == (1 if path or number == 22 else 2) else set()) | ({"last"} if place == hops else set()):
+                met |= {(number, which, where) for which, i in (("first", 0), ("last", data[7] - 1)) if path == i}
+    assert {number for number, _, _ in met} == {0, 8, 30, 31, 32, 33, 34, 36, 2, 5, 6, 7, 22, 24}, met
+    ends = ("first", "last")
+    wanted = {(n, "", e) for n in (5, 6, 7) for e in ends} | {(n, which, where) for n in (22, 24) for which in ends for where in ends}
+    assert wanted - met == {(7, "", "first")}, wanted - met
     return accepted
 
 
@@ -238,9 +290,17 @@ def worked():
     case_i = sheet(1, 1, 0, [[1]])
     assert in_hex(case_i) == "00 00 00 16 01 01 01 01 " + "00 " * 8 + "00 01 " + "00 " * 7 + "01"
     page = os.path.join(os.path.dirname(__file__), "..", "docs", "SHEETS.md")
-    blocks = re.findall(r"```\n(.*?)```", open(page, encoding="utf-8").read(), re.S)
+    text = open(page, encoding="utf-8").read()
+    blocks = re.findall(r"```\n(.*?)```", text, re.S)
     shown = [" ".join(re.findall(r"\b[0-9a-f]{2}\b", "\n".join(line[:32] for line in block.split("\n")))) for block in blocks]
-    assert shown == [in_hex(case_i), in_hex(sheet(1, 2, 0, [[2, 3], [1]]))], shown
+    second = sheet(1, 2, 0, [[2, 3], [1]])
+    assert shown == [in_hex(case_i), in_hex(second)], shown
+    # the table of damaged sheets: number, path and place, and the byte that is changed in the second sheet
+    rows = re.findall(r"^\| (\d+) \| (\d+) \| (\d+) \| byte (\d+) set to ([0-9a-f]{2}) \|", text, re.M)
+    for *told, at, value in rows:
+        bad = list(second[:int(at)] + bytes([int(value, 16)]) + second[int(at) + 1:])
+        assert list(read(bad, *([HELD] * 99,) * 3)[0][:3]) == [int(n) for n in told], (told, at, value)
+    assert {int(row[0]) for row in rows} == {30, 31, 32, 33, 34, 36, 2, 5, 6, 7, 22, 24}, rows
 
 
 def small():

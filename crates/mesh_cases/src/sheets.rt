@@ -52,6 +52,7 @@ fn put_reading(reading: Reading) {
     text(b"read");
     put(reading.number());
     put(reading.path() as u64);
+    put(reading.place() as u64);
     let mesh = reading.mesh();
     put(mesh.kind);
     put(mesh.size);

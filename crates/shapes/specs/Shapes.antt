@@ -10,7 +10,7 @@ use Rattle.mesh.specs.Kinds.{Kind}
 use Rattle.mesh.specs.Says.{factTold}
 use Rattle.judge.specs.Says.{Ruling, numberOf, pathOf, placeOf}
 use Rattle.survivors.specs.Tally.{Tallied, rulingOf, wholeOf}
-use Rattle.sheet.specs.Says.{WriteTold, writtenNumber, writtenBytes, ReadTold, readNumber, readPath, readKind, readSize, readSource, readCount}
+use Rattle.sheet.specs.Says.{WriteTold, writtenNumber, writtenBytes, ReadTold, readNumber, readPath, readPlace, readKind, readSize, readSource, readCount}
 use Rattle.arrivals.specs.Says as frames
 use Rattle.arrivals.specs.declared.Record.{Record}
 use Rattle.arrivals.specs.declared.Arrival.{Arrival}
@@ -54,7 +54,7 @@ abbrev pub readingIn : ReadTold → GustReading
 readingIn t = record {
   number = readNumber t;
   path = readPath t;
-  place = 0;
+  place = readPlace t;
   kind = readKind t;
   size = readSize t;
   source = readSource t;
@@ -83,12 +83,14 @@ six : {A : Type 0} (f : (a b c d e g : ℕ) → A) {a b c d e g a₁ b₁ c₁ d
 six f {a} {b} {c} {d} {e} {g} {a₁} {b₁} {c₁} {d₁} {e₁} {g₁} p q r s t u =
     ap₂ (λ (x y : ℕ). f x y c d e g) p q ∙ ap₂ (λ (x y : ℕ). f a₁ b₁ x y e g) r s ∙ ap₂ (λ (x y : ℕ). f a₁ b₁ c₁ d₁ x y) t u
 
--- number, path, kind, size, source and how many paths
-abbrev reading : (n i kind size s k : ℕ) → GustReading
-reading n i kind size s k = record { number = n; path = i; place = 0; kind = kind; size = size; source = s; paths = k }
+-- number, path, place, kind, size, source and how many paths
+abbrev reading : (n i p kind size s k : ℕ) → GustReading
+reading n i p kind size s k = record { number = n; path = i; place = p; kind = kind; size = size; source = s; paths = k }
 
-pub reading-same : {n i d z s k n₁ i₁ d₁ z₁ s₁ k₁ : ℕ} → n ≡ n₁ → i ≡ i₁ → d ≡ d₁ → z ≡ z₁ → s ≡ s₁ → k ≡ k₁ → reading n i d z s k ≡ reading n₁ i₁ d₁ z₁ s₁ k₁
-reading-same a b c d e f = six reading a b c d e f
+pub reading-same : {n i p d z s k n₁ i₁ p₁ d₁ z₁ s₁ k₁ : ℕ} → n ≡ n₁ → i ≡ i₁ → p ≡ p₁ → d ≡ d₁ → z ≡ z₁ → s ≡ s₁ → k ≡ k₁
+    → reading n i p d z s k ≡ reading n₁ i₁ p₁ d₁ z₁ s₁ k₁
+reading-same {k = k} {n₁ = n₁} {i₁ = i₁} {p₁ = p₁} {d₁ = d₁} {z₁ = z₁} {s₁ = s₁} a b c d e f g =
+    six (λ (n i p d z s : ℕ). reading n i p d z s k) a b c d e f ∙ ap (reading n₁ i₁ p₁ d₁ z₁ s₁) g
 
 -- number, place and the four facts
 abbrev facts : (n p relays links longest places : ℕ) → GustFacts

@@ -169,7 +169,7 @@ pub fn of_reading(read: Reading) -> GustReading
     GustReading {
         number: read.number(),
         path: read.path() as u64,
-        place: 0,
+        place: read.place() as u64,
         kind: mesh.kind,
         size: mesh.size,
         source: read.source(),

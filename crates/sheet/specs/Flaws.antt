@@ -1,27 +1,34 @@
--- Laws of flaws: a flaw is known by its number and path (`flaw-back`), and none has number 0 (`flaw-some`); when nothing stands against a sheet, test by
+-- Laws of flaws: a flaw is known by its number, path and place (`flaw-back`, `flaw-same`), and none has number 0 (`flaw-some`); when nothing stands against a sheet, test by
 -- test, there and back (`flawed-none`, `before-none`; `none-flawed`, `none-before`). Assumes nothing.
 use Prim.Native.Nat.{ℕ}
-use mathlib.Core.Path.{_≡_, refl, ap, _∙_}
+use mathlib.Core.Path.{_≡_, refl, sym, ap, ap₂, _∙_}
 use mathlib.Core.Bool.{Bool, true, false}
 use mathlib.Core.Option.{none, some, Option}
 use native.Mathlib.Omega.{arith}
 use lib.Dec.{eqb}
-use Rattle.scan.specs.Laws.{true-false}
 use Rattle.scan.specs.Scan.{pick}
-use Rattle.sheet.specs.Says.{flawNumber, flawPath, flawed, before}
+use Rattle.sheet.specs.Says.{flawNumber, flawPath, flawPlace, flawed, before}
 use Rattle.sheet.specs.declared.Flaw.{Flaw}
 use Rattle.sheet.specs.declared.Flaw.the-variants as flaw
 
--- the flaw of a number and a path
-pub flawAt : (n i : ℕ) → Flaw
-flawAt n i =
+-- the flaw of a number, a path and a place
+pub flawAt : (n i p : ℕ) → Flaw
+flawAt n i p =
     pick (eqb n 30) flaw.Cut
     (pick (eqb n 31) flaw.Version
     (pick (eqb n 32) flaw.NoMesh
     (pick (eqb n 33) flaw.Paths
-    (pick (eqb n 8) flaw.NoRoom (pick (eqb n 34) (flaw.Hops i) (pick (eqb n 35) flaw.NotAFan flaw.LeftOver))))))
+    (pick (eqb n 8) flaw.NoRoom
+    (pick (eqb n 34) (flaw.Hops i)
+    (pick (eqb n 35) flaw.NotAFan
+    (pick (eqb n 36) flaw.LeftOver
+    (pick (eqb n 2) flaw.SourceOut
+    (pick (eqb n 5) (flaw.TargetOut p)
+    (pick (eqb n 6) (flaw.TargetIsSource p)
+    (pick (eqb n 7) (flaw.TargetAgain p)
+    (pick (eqb n 22) (flaw.NotLinked i p) (flaw.SeenAgain i p)))))))))))))
 
-pub flaw-back : (f : Flaw) → flawAt (flawNumber f) (flawPath f) ≡ f
+pub flaw-back : (f : Flaw) → flawAt (flawNumber f) (flawPath f) (flawPlace f) ≡ f
 unfolding flawAt
 flaw-back flaw.Cut = refl
 flaw-back flaw.Version = refl
@@ -31,6 +38,12 @@ flaw-back flaw.NoRoom = refl
 flaw-back (flaw.Hops i) = refl
 flaw-back flaw.NotAFan = refl
 flaw-back flaw.LeftOver = refl
+flaw-back flaw.SourceOut = refl
+flaw-back (flaw.TargetOut p) = refl
+flaw-back (flaw.TargetIsSource p) = refl
+flaw-back (flaw.TargetAgain p) = refl
+flaw-back (flaw.NotLinked i p) = refl
+flaw-back (flaw.SeenAgain i p) = refl
 
 pub flaw-some : (f : Flaw) → eqb (flawNumber f) 0 ≡ false
 flaw-some flaw.Cut = refl
@@ -41,16 +54,17 @@ flaw-some flaw.NoRoom = refl
 flaw-some (flaw.Hops i) = refl
 flaw-some flaw.NotAFan = refl
 flaw-some flaw.LeftOver = refl
+flaw-some flaw.SourceOut = refl
+flaw-some (flaw.TargetOut p) = refl
+flaw-some (flaw.TargetIsSource p) = refl
+flaw-some (flaw.TargetAgain p) = refl
+flaw-some (flaw.NotLinked i p) = refl
+flaw-some (flaw.SeenAgain i p) = refl
 
-pub no-path : (f : Flaw) → eqb (flawNumber f) 34 ≡ false → flawPath f ≡ 0
-no-path flaw.Cut e = refl
-no-path flaw.Version e = refl
-no-path flaw.NoMesh e = refl
-no-path flaw.Paths e = refl
-no-path flaw.NoRoom e = refl
-no-path (flaw.Hops i) e = absurd (true-false refl e)
-no-path flaw.NotAFan e = refl
-no-path flaw.LeftOver e = refl
+-- flaws that tell the same are the same
+pub flaw-same : (f g : Flaw) → flawNumber f ≡ flawNumber g → flawPath f ≡ flawPath g → flawPlace f ≡ flawPlace g → f ≡ g
+flaw-same f g a b c =
+    sym (flaw-back f) ∙ ap₂ (λ (n i : ℕ). flawAt n i (flawPlace f)) a b ∙ ap (flawAt (flawNumber g) (flawPath g)) c ∙ flaw-back g
 
 pub flawed-none : (b : Bool) (f : Flaw) (rest : Option Flaw) → flawed b f rest ≡ none → (b ≡ false) × (rest ≡ none)
 flawed-none true f rest e = let z : _≡_ {A = ℕ} 0 1 = cc in absurd (omega arith)

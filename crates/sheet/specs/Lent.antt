@@ -103,7 +103,7 @@ row-at s longest p j h g = go (decLt j (length (s ∷ p)))
         ∙ getD-replicate (longest - length p) r filler 0 (omega arith) ∙ sym (List·getD-eq-default (s ∷ p) filler {n = j} (omega arith))
 
 -- the last of a list
-last-at : (x : ℕ) (p : List ℕ) → lastOf x p ≡ getD (x ∷ p) (length p) filler
+pub last-at : (x : ℕ) (p : List ℕ) → lastOf x p ≡ getD (x ∷ p) (length p) filler
 unfolding lastOf
 last-at x [] = refl
 last-at x (y ∷ p) = last-at y p

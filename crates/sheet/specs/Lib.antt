@@ -5,6 +5,7 @@ pub mod Flaws
 pub mod Pieces
 pub mod Lengths
 pub mod Lent
+pub mod Laid
 pub mod Most
 pub mod Judging
 pub mod Cases

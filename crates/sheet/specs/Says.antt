@@ -1,5 +1,6 @@
--- What flaws and the answers of the writer and the reader tell: the specification's number, the path that 34 tells, and what comes beside them
--- (`flawNumber`, `flawPath`, `writtenTold`, `readingTold`); flaws in their order, and what a lent slice holds where one stands against it. Assumes nothing.
+-- What flaws and the answers of the writer and the reader tell: the specification's number, path and place, and what comes beside them
+-- (`flawNumber`, `flawPath`, `flawPlace`, `writtenTold`, `readingTold`); flaws in their order, and what a lent slice holds where one stands against it.
+-- Assumes nothing.
 use Prim.Native.Nat.{ℕ}
 use mathlib.Core.Bool.{Bool}
 use mathlib.Core.Option.{Option, none, some}
@@ -20,6 +21,12 @@ flawNumber flaw.NoRoom = 8
 flawNumber (flaw.Hops i) = 34
 flawNumber flaw.NotAFan = 35
 flawNumber flaw.LeftOver = 36
+flawNumber flaw.SourceOut = 2
+flawNumber (flaw.TargetOut p) = 5
+flawNumber (flaw.TargetIsSource p) = 6
+flawNumber (flaw.TargetAgain p) = 7
+flawNumber (flaw.NotLinked i p) = 22
+flawNumber (flaw.SeenAgain i p) = 24
 
 abbrev pub flawPath : Flaw → ℕ
 flawPath flaw.Cut = 0
@@ -30,6 +37,28 @@ flawPath flaw.NoRoom = 0
 flawPath (flaw.Hops i) = i
 flawPath flaw.NotAFan = 0
 flawPath flaw.LeftOver = 0
+flawPath flaw.SourceOut = 0
+flawPath (flaw.TargetOut p) = 0
+flawPath (flaw.TargetIsSource p) = 0
+flawPath (flaw.TargetAgain p) = 0
+flawPath (flaw.NotLinked i p) = i
+flawPath (flaw.SeenAgain i p) = i
+
+abbrev pub flawPlace : Flaw → ℕ
+flawPlace flaw.Cut = 0
+flawPlace flaw.Version = 0
+flawPlace flaw.NoMesh = 0
+flawPlace flaw.Paths = 0
+flawPlace flaw.NoRoom = 0
+flawPlace (flaw.Hops i) = 0
+flawPlace flaw.NotAFan = 0
+flawPlace flaw.LeftOver = 0
+flawPlace flaw.SourceOut = 0
+flawPlace (flaw.TargetOut p) = p
+flawPlace (flaw.TargetIsSource p) = p
+flawPlace (flaw.TargetAgain p) = p
+flawPlace (flaw.NotLinked i p) = p
+flawPlace (flaw.SeenAgain i p) = p
 
 -- what stands against it, or what comes after
 abbrev pub flawed : Bool → Flaw → Option Flaw → Option Flaw
@@ -46,19 +75,19 @@ settled (some f) a b = b
 
 -- ---- the writer
 
--- number and the length of the sheet
+-- number, path and place, and the length of the sheet
 pub data WriteTold : Type 0 where
-  wrote : (number bytes : ℕ) → WriteTold
+  wrote : (number path place bytes : ℕ) → WriteTold
 
 abbrev pub writtenNumber : WriteTold → ℕ
-writtenNumber (wrote n bytes) = n
+writtenNumber (wrote n i p bytes) = n
 
 abbrev pub writtenBytes : WriteTold → ℕ
-writtenBytes (wrote n bytes) = bytes
+writtenBytes (wrote n i p bytes) = bytes
 
 abbrev pub tellWritten : Option Flaw → ℕ → WriteTold
-tellWritten none n = wrote 0 n
-tellWritten (some f) n = wrote (flawNumber f) 0
+tellWritten none n = wrote 0 0 0 n
+tellWritten (some f) n = wrote (flawNumber f) (flawPath f) (flawPlace f) 0
 
 abbrev pub writtenTold : Written → WriteTold
 writtenTold (written.Bytes n) = tellWritten none n
@@ -66,31 +95,34 @@ writtenTold (written.Refused f) = tellWritten (some f) 0
 
 -- ---- the reader
 
--- number and path; kind, size, source and how many paths
+-- number, path and place; kind, size, source and how many paths
 pub data ReadTold : Type 0 where
-  reads : (number path kind size source k : ℕ) → ReadTold
+  reads : (number path place kind size source k : ℕ) → ReadTold
 
 abbrev pub readNumber : ReadTold → ℕ
-readNumber (reads n i kind size s k) = n
+readNumber (reads n i p kind size s k) = n
 
 abbrev pub readPath : ReadTold → ℕ
-readPath (reads n i kind size s k) = i
+readPath (reads n i p kind size s k) = i
+
+abbrev pub readPlace : ReadTold → ℕ
+readPlace (reads n i p kind size s k) = p
 
 abbrev pub readKind : ReadTold → ℕ
-readKind (reads n i kind size s k) = kind
+readKind (reads n i p kind size s k) = kind
 
 abbrev pub readSize : ReadTold → ℕ
-readSize (reads n i kind size s k) = size
+readSize (reads n i p kind size s k) = size
 
 abbrev pub readSource : ReadTold → ℕ
-readSource (reads n i kind size s k) = s
+readSource (reads n i p kind size s k) = s
 
 abbrev pub readCount : ReadTold → ℕ
-readCount (reads n i kind size s k) = k
+readCount (reads n i p kind size s k) = k
 
 abbrev pub tellRead : Option Flaw → (kind size source k : ℕ) → ReadTold
-tellRead none kind size s k = reads 0 0 kind size s k
-tellRead (some f) kind size s k = reads (flawNumber f) (flawPath f) 0 0 0 0
+tellRead none kind size s k = reads 0 0 0 kind size s k
+tellRead (some f) kind size s k = reads (flawNumber f) (flawPath f) (flawPlace f) 0 0 0 0
 
 abbrev pub readingTold : Reading → ReadTold
 readingTold (reading.Fan m s k) = tellRead none (m .kind) (m .size) s k

@@ -17,10 +17,22 @@ pub enum Flaw {
     NoRoom,
     // 34: a path with no hops, or more than the longest has; its number, counted from 0.
     Hops(usize),
-    // 35: the request or the paths fail the judge.
+    // 35: what is to be written fails the judge.
     NotAFan,
     // 36: bytes are left over.
     LeftOver,
+    // 2: the source is no relay of the mesh.
+    SourceOut,
+    // 5: a target, the last relay of a path, is no relay of the mesh; the path's number, which is the target's place in the list of targets.
+    TargetOut(usize),
+    // 6: a target is the source; its place.
+    TargetIsSource(usize),
+    // 7: a target is that of an earlier path; its place.
+    TargetAgain(usize),
+    // 22: a relay that is not linked to the one before, or out of range; path and place.
+    NotLinked(usize, usize),
+    // 24: a relay that stands earlier on its path, or on an earlier one; path and place.
+    SeenAgain(usize, usize),
 }
 
 // How many bytes the sheet takes, or why there is none.
@@ -49,10 +61,16 @@ impl Flaw {
             Flaw::Hops(_) => 34,
             Flaw::NotAFan => 35,
             Flaw::LeftOver => 36,
+            Flaw::SourceOut => 2,
+            Flaw::TargetOut(_) => 5,
+            Flaw::TargetIsSource(_) => 6,
+            Flaw::TargetAgain(_) => 7,
+            Flaw::NotLinked(_, _) => 22,
+            Flaw::SeenAgain(_, _) => 24,
         }
     }
 
-    // The path that 34 tells, and 0 of all else.
+    // The path that 22, 24 and 34 tell, and 0 of all else: of `Flaw::NotLinked(1, 3)` it is 1.
     pub fn path(self) -> usize
         ensures { λ r. ⌜ r ≡ says.flawPath self ⌝ }
     {
@@ -65,6 +83,34 @@ impl Flaw {
             Flaw::Hops(i) => i,
             Flaw::NotAFan => 0,
             Flaw::LeftOver => 0,
+            Flaw::SourceOut => 0,
+            Flaw::TargetOut(_) => 0,
+            Flaw::TargetIsSource(_) => 0,
+            Flaw::TargetAgain(_) => 0,
+            Flaw::NotLinked(i, _) => i,
+            Flaw::SeenAgain(i, _) => i,
+        }
+    }
+
+    // The place that 5, 6, 7, 22 and 24 tell, and 0 of all else: of `Flaw::NotLinked(1, 3)` it is 3.
+    pub fn place(self) -> usize
+        ensures { λ r. ⌜ r ≡ says.flawPlace self ⌝ }
+    {
+        match self {
+            Flaw::Cut => 0,
+            Flaw::Version => 0,
+            Flaw::NoMesh => 0,
+            Flaw::Paths => 0,
+            Flaw::NoRoom => 0,
+            Flaw::Hops(_) => 0,
+            Flaw::NotAFan => 0,
+            Flaw::LeftOver => 0,
+            Flaw::SourceOut => 0,
+            Flaw::TargetOut(p) => p,
+            Flaw::TargetIsSource(p) => p,
+            Flaw::TargetAgain(p) => p,
+            Flaw::NotLinked(_, p) => p,
+            Flaw::SeenAgain(_, p) => p,
         }
     }
 }
@@ -102,13 +148,23 @@ impl Reading {
         }
     }
 
-    // The path that 34 tells, and 0 of all else.
+    // The path that 22, 24 and 34 tell, and 0 of all else.
     pub fn path(self) -> usize
         ensures { λ r. ⌜ r ≡ says.readPath (says.readingTold self) ⌝ }
     {
         match self {
             Reading::Fan(_, _, _) => 0,
             Reading::Refused(f) => f.path(),
+        }
+    }
+
+    // The place that 5, 6, 7, 22 and 24 tell, and 0 of all else.
+    pub fn place(self) -> usize
+        ensures { λ r. ⌜ r ≡ says.readPlace (says.readingTold self) ⌝ }
+    {
+        match self {
+            Reading::Fan(_, _, _) => 0,
+            Reading::Refused(f) => f.place(),
         }
     }
 

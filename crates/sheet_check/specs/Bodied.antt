@@ -3,6 +3,7 @@
 use Prim.Native.Nat.{ℕ, _-_, _≤_}
 use mathlib.Core.Path.{_≡_, refl, sym, ap, ap₂, _∙_}
 use mathlib.Core.Bool.{true, false, not}
+use mathlib.Core.Logic.{_≢_}
 use mathlib.Core.List.{List}
 use mathlib.Core.Option.{Option, none, some}
 use native.Mathlib.Omega.{arith}
@@ -30,7 +31,7 @@ module _ (l : List ℕ) where
   pub head-bodied : {m : code.Mesh} {s k : ℕ} {r : Reading} → r ≡ reading.Fan m s k → readingTold r ≡ sheetTold l (headAgainst l) → Bodied l (m .kind) (m .size) s k
   head-bodied {m} {s} {k} e t = go (headAgainst l) refl (sym (ap readingTold e) ∙ t)
     where
-      go : (o : Option Flaw) → headAgainst l ≡ o → reads 0 0 (m .kind) (m .size) s k ≡ sheetTold l o → Bodied l (m .kind) (m .size) s k
+      go : (o : Option Flaw) → headAgainst l ≡ o → reads 0 0 0 (m .kind) (m .size) s k ≡ sheetTold l o → Bodied l (m .kind) (m .size) s k
       go none h g = record { head = h; kind-is = ap readKind g; size-is = ap readSize g; source-is = ap readSource g; count-is = ap readCount g }
       go (some f) h g = absurd (eqb-false (flawNumber f) 0 (flaw-some f) (sym (ap readNumber g)))
 
@@ -58,10 +59,14 @@ module _ {l : List ℕ} {kind size s k : ℕ} (b : Bodied l kind size s k) where
   pub body-known : known kind size ≡ true
   body-known = ap₂ known (b .kind-is) (b .size-is) ∙ faultless .1
 
+  counted : (eqb (countAt l) 0 ≡ false) × (ltb (meshAt l .links) (countAt l) ≡ false)
+  counted = neither-wanting (eqb (countAt l) 0) (ltb (meshAt l .links) (countAt l)) refl (faultless .2)
+
+  pub body-some : k ≢ 0
+  body-some z = eqb-false (countAt l) 0 (counted .0) (sym (b .count-is) ∙ z)
+
   pub body-few : k ≤ meshOf kind size .links
-  body-few =
-      let r = neither-wanting (eqb (countAt l) 0) (ltb (meshAt l .links) (countAt l)) refl (faultless .2) in
-      omega (arith, ltb-false (meshAt l .links) (countAt l) (r .1), ap (λ (m : Mesh). m .links) mesh-is, b .count-is)
+  body-few = omega (arith, ltb-false (meshAt l .links) (countAt l) (counted .1), ap (λ (m : Mesh). m .links) mesh-is, b .count-is)
 
   pub body-long : HEAD ≤ length l
   body-long = ltb-false (length l) HEAD (neither-wanting (ltb (length l) HEAD) (not (eqb (lengthAt l) (length l - 4))) refl (faultless .0) .0)

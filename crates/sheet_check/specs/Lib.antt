@@ -6,4 +6,5 @@ pub mod Judged
 pub mod Heads
 pub mod Bodied
 pub mod Checking
+pub mod Spoiled
 pub mod Unique

@@ -3,13 +3,13 @@
 use Prim.Native.Nat.{ℕ, _-_}
 use mathlib.Core.Bool.{Bool, true, false, not}
 use mathlib.Core.List.{List}
-use mathlib.Core.Option.{Option, none}
+use mathlib.Core.Option.{Option, none, some}
 use lib.Dec.{eqb, ltb}
 use lib.ListN.{length}
 use Rattle.scan.specs.Scan.{pick}
 use Rattle.paths.specs.Mesh.{Mesh}
 use Rattle.mesh.specs.Kinds.{kindOf, meshOf, known}
-use Rattle.judge.specs.Says.{Ruling, numberOf, judgeTold}
+use Rattle.judge.specs.Says.{Ruling, ruling, numberOf, judgeTold}
 use Rattle.sheet.specs.Format.{VERSION, HEAD, lengthAt, versionAt, kindAt, sizeAt, countAt, sourceAt, pathsAt, placesOf, countsOf, targetsOf}
 use Rattle.sheet.specs.Says.{flawed, before, ReadTold, tellRead}
 use Rattle.sheet.specs.declared.Flaw.{Flaw}
@@ -30,6 +30,20 @@ countAgainst links k = flawed (badCount links k) flaw.Paths none
 -- what the judge says of paths from s
 abbrev pub rulingOf : (kind size s : ℕ) (ps : List (List ℕ)) → Ruling
 rulingOf kind size s ps = judgeTold (kindOf kind) size s (targetsOf s ps) (placesOf s (meshOf kind size .longest) ps) (countsOf ps) false
+
+-- what the judge says against a sheet: the request's own number with its place, else the finding with path and place. Nothing else comes out of one
+-- (`Spoiled`)
+abbrev pub flawIn : Ruling → Flaw
+flawIn (ruling n i p) =
+    pick (eqb n 2) flaw.SourceOut
+    (pick (eqb n 5) (flaw.TargetOut p)
+    (pick (eqb n 6) (flaw.TargetIsSource p)
+    (pick (eqb n 7) (flaw.TargetAgain p)
+    (pick (eqb n 22) (flaw.NotLinked i p)
+    (pick (eqb n 24) (flaw.SeenAgain i p) flaw.NotAFan)))))
+
+abbrev pub ruled : Ruling → Option Flaw
+ruled r = pick (eqb (numberOf r) 0) none (some (flawIn r))
 
 module _ (l : List ℕ) where
   abbrev pub meshAt : Mesh
@@ -60,13 +74,9 @@ module _ (l : List ℕ) where
   abbrev pub sheetRuling : Ruling
   sheetRuling = rulingOf (kindAt l) (sizeAt l) (sourceAt l) sheetPaths
 
-  -- 35: they fail the judge
-  abbrev pub unjudged : Bool
-  unjudged = not (eqb (numberOf sheetRuling) 0)
-
-  -- 30 and 34 path by path, 36, 35
+  -- 30 and 34 path by path, 36; 2, 5, 6, 7; 22 and 24 path by path
   abbrev pub pathsAgainst : Option Flaw
-  pathsAgainst = before (looked (meshAt .longest) l HEAD 0 (countAt l)) (flawed unjudged flaw.NotAFan none)
+  pathsAgainst = before (looked (meshAt .longest) l HEAD 0 (countAt l)) (ruled sheetRuling)
 
   -- what stands against a sheet of which nothing is taken out
   abbrev pub checkAgainst : Option Flaw

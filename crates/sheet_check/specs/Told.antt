@@ -1,20 +1,20 @@
 -- What is told says what stands against a sheet: a refusal is the flaw that does (`told-flaw`), and a fan that nothing does (`told-none`).
 -- Assumes nothing.
 use Prim.Native.Nat.{ℕ}
-use mathlib.Core.Path.{_≡_, refl, sym, ap, ap₂, _∙_}
+use mathlib.Core.Path.{_≡_, refl, sym, ap}
 use mathlib.Core.List.{List}
 use mathlib.Core.Option.{Option, none, some}
 use borrow.Author.Tests.{eqb-false}
-use Rattle.sheet.specs.Says.{flawNumber, reads, readNumber, readPath, tellRead}
-use Rattle.sheet.specs.Flaws.{flawAt, flaw-back, flaw-some}
+use Rattle.sheet.specs.Says.{flawNumber, reads, readNumber, readPath, readPlace, tellRead}
+use Rattle.sheet.specs.Flaws.{flaw-same, flaw-some}
 use Rattle.sheet.specs.declared.Flaw.{Flaw}
 use Rattle.sheet_check.specs.Says.{sheetTold}
 
 module _ (l : List ℕ) where
   pub told-flaw : (o : Option Flaw) {f : Flaw} → tellRead (some f) 0 0 0 0 ≡ sheetTold l o → some f ≡ o
   told-flaw none {f} e = absurd (eqb-false (flawNumber f) 0 (flaw-some f) (ap readNumber e))
-  told-flaw (some x) {f} e = ap some (sym (flaw-back f) ∙ ap₂ flawAt (ap readNumber e) (ap readPath e) ∙ flaw-back x)
+  told-flaw (some x) {f} e = ap some (flaw-same f x (ap readNumber e) (ap readPath e) (ap readPlace e))
 
-  pub told-none : (o : Option Flaw) {kind size s k : ℕ} → reads 0 0 kind size s k ≡ sheetTold l o → o ≡ none
+  pub told-none : (o : Option Flaw) {kind size s k : ℕ} → reads 0 0 0 kind size s k ≡ sheetTold l o → o ≡ none
   told-none none e = refl
   told-none (some f) e = absurd (eqb-false (flawNumber f) 0 (flaw-some f) (sym (ap readNumber e)))

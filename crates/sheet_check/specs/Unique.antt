@@ -6,19 +6,19 @@ use mathlib.Core.List.{List}
 use lib.Dec.{eqb}
 use Rattle.scan.specs.Scan.{pick}
 use Rattle.sheet.specs.Flaws.{flawAt, flaw-back, flaw-some}
-use Rattle.sheet.specs.Says.{flawNumber, flawPath, ReadTold, reads, readingTold}
+use Rattle.sheet.specs.Says.{flawNumber, flawPath, flawPlace, ReadTold, reads, readingTold}
 use Rattle.sheet_check.specs.Says.{checkAgainst, sheetTold}
 use Rattle.sheet.specs.declared.Reading.{Reading}
 use Rattle.sheet.specs.declared.Reading.the-variants as reading
 
 readingOf : ReadTold → Reading
-readingOf (reads n i kind size s k) = pick (eqb n 0) (reading.Fan (record { kind = kind; size = size }) s k) (reading.Refused (flawAt n i))
+readingOf (reads n i p kind size s k) = pick (eqb n 0) (reading.Fan (record { kind = kind; size = size }) s k) (reading.Refused (flawAt n i p))
 
 reading-back : (r : Reading) → readingOf (readingTold r) ≡ r
 unfolding readingOf
 reading-back (reading.Fan m s k) = refl
 reading-back (reading.Refused f) =
-    ap (λ (b : Bool). pick b (reading.Fan (record { kind = 0; size = 0 }) 0 0) (reading.Refused (flawAt (flawNumber f) (flawPath f)))) (flaw-some f)
+    ap (λ (b : Bool). pick b (reading.Fan (record { kind = 0; size = 0 }) 0 0) (reading.Refused (flawAt (flawNumber f) (flawPath f) (flawPlace f)))) (flaw-some f)
     ∙ ap reading.Refused (flaw-back f)
 
 pub reading-unique : (a b : Reading) → readingTold a ≡ readingTold b → a ≡ b

@@ -2,10 +2,10 @@
 ghost use mathlib.Core.Path.{_≡_};
 ghost use lib.ListN.{length};
 ghost use Rattle.mesh.specs.Limits.{mostLinks, mostPlaces};
-ghost use Rattle.judge.specs.Says.{verdictTold};
+ghost use Rattle.judge.specs.Says.{verdictTold, ruling};
 ghost use Rattle.sheet.specs.Format.{HEAD, pathsAt};
 ghost use Rattle.sheet.specs.Says.{readingTold};
-ghost use Rattle.sheet_check.specs.Says.{sheetTold, pathsAgainst, rulingOf};
+ghost use Rattle.sheet_check.specs.Says.{sheetTold, pathsAgainst, rulingOf, flawIn};
 ghost use Rattle.sheet_check.specs.Needs.{Bodied, Judgeable};
 use judge::Verdict;
 use mesh::Mesh;
@@ -52,7 +52,23 @@ fn judged(mesh: Mesh, source: u64, longest: usize, k: usize, bytes: &[u8]) -> Ve
     )
 }
 
-// The k paths after a head that tells of them: what is wrong with their bytes, and then whether they pass the judge.
+// What the judge says against a sheet. The source, the targets, the counts and the unused places are made of the sheet itself, so that the judge has no other
+// number to tell of them (`judged-case`): the last arm is never reached.
+fn flaw_in(number: u64, path: usize, place: usize) -> Flaw
+    ensures { λ r. ⌜ r ≡ flawIn (ruling number path place) ⌝ }
+{
+    match number {
+        2 => Flaw::SourceOut,
+        5 => Flaw::TargetOut(place),
+        6 => Flaw::TargetIsSource(place),
+        7 => Flaw::TargetAgain(place),
+        22 => Flaw::NotLinked(path, place),
+        24 => Flaw::SeenAgain(path, place),
+        _ => Flaw::NotAFan,
+    }
+}
+
+// The k paths after a head that tells of them: what is wrong with their bytes, and then what the judge says of them.
 pub fn check_paths(mesh: Mesh, source: u64, k: usize, bytes: &[u8]) -> Reading
     requires { ⌜ Bodied (now bytes) (mesh .kind) (mesh .size) source k ⌝ }
     ensures { λ r. ⌜ readingTold r ≡ sheetTold (now (bytes .entry)) (pathsAgainst (now (bytes .entry))) ⌝ }
@@ -63,8 +79,9 @@ pub fn check_paths(mesh: Mesh, source: u64, k: usize, bytes: &[u8]) -> Reading
         return Reading::Refused(f);
     }
     let verdict = judged(mesh, source, longest as usize, k, bytes);
-    if verdict.number() == 0 {
+    let number = verdict.number();
+    if number == 0 {
         return Reading::Fan(mesh, source, k);
     }
-    Reading::Refused(Flaw::NotAFan)
+    Reading::Refused(flaw_in(number, verdict.path(), verdict.place()))
 }

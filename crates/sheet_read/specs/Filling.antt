@@ -99,7 +99,7 @@ module _ {l : List ℕ} {kind size s k : ℕ} (b : Bodied l kind size s k) (plac
           pub body-fan : {m₁ : code.Mesh} {places₁ counts₁ targets₁ : List ℕ} → m₁ .kind ≡ kind → m₁ .size ≡ size
               → TakenPaths l s longest k places counts targets places₁ counts₁ targets₁ → Read l places counts targets (reading.Fan m₁ s k) places₁ counts₁ targets₁
           body-fan {m₁} {places₁} {counts₁} {targets₁} mk ms x = record {
-            told = ap₂ (λ (x y : ℕ). reads 0 0 x y s k) (mk ∙ b .kind-is) (ms ∙ b .size-is) ∙ ap₂ (reads 0 0 (kindAt l) (sizeAt l)) (b .source-is) (b .count-is)
+            told = ap₂ (λ (x y : ℕ). reads 0 0 0 x y s k) (mk ∙ b .kind-is) (ms ∙ b .size-is) ∙ ap₂ (reads 0 0 0 (kindAt l) (sizeAt l)) (b .source-is) (b .count-is)
                 ∙ ap (sheetTold l) o;
             placed = q .placed ∙ at-front (sheetPlaces l) places (omega (arith, q .wide, all-taken .room))
                 ∙ ap (λ (y : Option Flaw). settled y (sheetPlaces l ++ drop (length (sheetPlaces l)) places) places) o;

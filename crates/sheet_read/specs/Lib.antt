@@ -2,3 +2,4 @@
 pub mod Says
 pub mod Filling
 pub mod Unique
+pub mod Numbers

@@ -1,6 +1,7 @@
--- Why looking through the paths of a sheet tells what is wrong first: one path (`path-cut` to `path-fine`), and the loop over them (`Looking`).
+-- Why looking through the paths of a sheet tells what is wrong first: one path (`path-cut` to `path-fine`), and the loop over them (`Looking`);
+-- and that paths with nothing wrong are within the longest (`looked-within`).
 -- Assumes nothing.
-use Prim.Native.Nat.{ℕ, suc, _+_, _-_, _≤_, _<_}
+use Prim.Native.Nat.{ℕ, zero, suc, _+_, _-_, _≤_, _<_}
 use mathlib.Core.Path.{_≡_, refl, sym, ap, _∙_}
 use mathlib.Core.Bool.{Bool, true, false, not}
 use mathlib.Core.Logic.{_≢_}
@@ -12,8 +13,10 @@ use lib.Dec.{eqb, ltb}
 use lib.ListN.{length}
 use borrow.Author.Tests.{lt-ltb, le-ltb, eq-eqb, ne-eqb, ltb-false, eqb-false}
 use Rattle.scan.specs.Scan.{pick}
-use Rattle.sheet.specs.Flaws.{flawed-none}
-use Rattle.sheet.specs.Format.{HEAD, hopsAt, after}
+use Rattle.sheet.specs.Flaws.{flawed-none, before-none}
+use Rattle.sheet.specs.Format.{HEAD, hopsAt, after, pathsAt}
+use Rattle.sheet.specs.Lengths.{relays-count}
+use Rattle.sheet.specs.Lent.{Within}
 use Rattle.sheet.specs.Says.{flawed, before}
 use Rattle.sheet.specs.declared.Flaw.{Flaw}
 use Rattle.sheet.specs.declared.Flaw.the-variants as flaw
@@ -93,6 +96,24 @@ looked-more longest l at i k = go (ltb (length l) (at + 2)) (badHops longest (ho
     go false true c = refl
     go false false true = refl
     go false false false = refl
+
+-- ---- paths that nothing stands against
+
+-- one of them, and the rest
+pub looked-first : (longest : ℕ) (l : List ℕ) (at i k : ℕ) → looked longest l at i (suc k) ≡ none → Fine longest l at × (looked longest l (after l at) (suc i) k ≡ none)
+looked-first longest l at i k e =
+    let r = before-none (wrongAt longest l at i) (looked longest l (after l at) (suc i) k) (sym (looked-more longest l at i k) ∙ e) in
+    (fine longest l at i (r .0), r .1)
+
+-- no path is longer than the longest
+pub looked-within : (longest : ℕ) (l : List ℕ) (at i k : ℕ) → looked longest l at i k ≡ none → Within longest (pathsAt l at k)
+unfolding pathsAt
+looked-within longest l at i zero e = tt
+looked-within longest l at i (suc k) e =
+    let r = looked-first longest l at i k e in
+    (omega (arith, relays-count l (at + 2) (hopsAt l at), r .0 .short), looked-within longest l (after l at) (suc i) k (r .1))
+
+-- ---- the loop
 
 -- the paths before path i are looked through
 pub record Looking (longest : ℕ) (l : List ℕ) (k at i : ℕ) : Type 0 where

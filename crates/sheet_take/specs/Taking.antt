@@ -12,12 +12,11 @@ use Rattle.scan.specs.Runs.{sets-append}
 use Rattle.octets.specs.Big.{number}
 use Rattle.paths.specs.Fan.{filler}
 use Rattle.paths.specs.Places.{row-below}
-use Rattle.sheet.specs.Flaws.{before-none}
 use Rattle.sheet.specs.Format.{HEAD, hopsAt, after, relaysAt, pathsAt, row, placesOf, countsOf, lastOf, targetsOf}
 use Rattle.sheet.specs.Lengths.{relays-count, paths-length, row-length, counts-length, targets-length}
-use Rattle.sheet_take.specs.Looking.{Fine, fine, looked-more}
+use Rattle.sheet_take.specs.Looking.{Fine, looked-first}
 use Rattle.sheet_take.specs.Needs.{Taken}
-use Rattle.sheet_take.specs.Says.{looked, wrongAt, TakenPaths}
+use Rattle.sheet_take.specs.Says.{looked, TakenPaths}
 
 pub row-taken : (s longest to h : ℕ) (l path : List ℕ) {l₁ l₂ : List ℕ} → length path ≡ h → l₁ ≡ sets (set l to s) (to + 1) path → l₂ ≡ sets l₁ (to + 1 + h) (replicate (longest - h) filler)
     → l₂ ≡ sets l to (row s longest path)
@@ -101,14 +100,12 @@ taking-starts {l} {longest} {k} s a = record {
 
 module _ {l : List ℕ} {s longest k : ℕ} {places₀ counts₀ targets₀ places counts targets : List ℕ} {at i : ℕ}
     (v : Taking l s longest k places₀ counts₀ targets₀ places counts targets at i) (h : i < k) where
-  both : (wrongAt longest l at i ≡ none) × (looked longest l (after l at) (suc i) (k - (i + 1)) ≡ none)
-  both =
-      let one : k - i ≡ suc (k - (i + 1)) = omega arith in
-      before-none _ _ (sym (looked-more longest l at i (k - (i + 1))) ∙ ap (looked longest l at i) (sym one) ∙ v .sound)
+  both : Fine longest l at × (looked longest l (after l at) (suc i) (k - (i + 1)) ≡ none)
+  both = let one : k - i ≡ suc (k - (i + 1)) = omega arith in looked-first longest l at i (k - (i + 1)) (ap (looked longest l at i) (sym one) ∙ v .sound)
 
   -- the next path has its bytes and its places
   pub next-fine : Fine longest l at
-  next-fine = fine longest l at i (both .0)
+  next-fine = both .0
 
   pub next-room : (i * (longest + 1) + longest < length places) × (i < length counts) × (i < length targets) × (longest ≤ 206)
   next-room = (

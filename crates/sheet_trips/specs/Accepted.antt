@@ -15,14 +15,14 @@ use Rattle.mesh.specs.Kinds.{kindOf, known}
 use Rattle.mesh.specs.Requests.{neither-wanting, room-enough}
 use Rattle.mesh.specs.Says.{short}
 use Rattle.judge.specs.Alike.{enough}
-use Rattle.judge.specs.Says.{numberOf, judgeTold}
+use Rattle.judge.specs.Says.{Ruling, ruling, numberOf, judgeTold}
 use Rattle.sheet.specs.Flaws.{flawed-none, before-none, no-flaw, none-flawed, none-before}
 use Rattle.sheet.specs.Format.{VERSION, HEAD, lengthAt, versionAt, kindAt, sizeAt, countAt, sourceAt}
 use Rattle.sheet.specs.Says.{flawed}
 use Rattle.sheet.specs.declared.Flaw.{Flaw}
 use Rattle.sheet.specs.declared.Flaw.the-variants as flaw
 use Rattle.sheet_take.specs.Says.{looked}
-use Rattle.sheet_check.specs.Says.{cut, badCount, meshAt, sheetTargets, sheetPlaces, sheetCounts, headAgainst, unjudged}
+use Rattle.sheet_check.specs.Says.{cut, badCount, meshAt, sheetTargets, sheetPlaces, sheetCounts, flawIn, ruled, headAgainst, sheetRuling}
 use Rattle.sheet_read.specs.Says.{lacking, readAgainst}
 
 pub record Accepted (l : List ℕ) (places counts targets : ℕ) : Type 0 where
@@ -37,12 +37,23 @@ pub record Accepted (l : List ℕ) (places counts targets : ℕ) : Type 0 where
   pub room : countAt l * width (meshAt l) ≤ places
   pub room-counts : countAt l ≤ counts
   pub room-targets : countAt l ≤ targets
-  -- 34, 30, 36; 35
+  -- 34, 30, 36; 2, 5, 6, 7, 22, 24
   pub looks : looked (meshAt l .longest) l HEAD 0 (countAt l) ≡ none
   pub is-fan : numberOf (judgeTold (kindOf (kindAt l)) (sizeAt l) (sourceAt l) (sheetTargets l) (sheetPlaces l) (sheetCounts l) false) ≡ 0
 
 neither : {a b : Bool} → a ≡ false → b ≡ false → pick a true b ≡ false
 neither {a} {b} e f = ap (λ (a : Bool). pick a true b) e ∙ f
+
+-- nothing is told of what the judge passes, and of nothing else
+ruled-none : (r : Ruling) → ruled r ≡ none → numberOf r ≡ 0
+ruled-none (ruling n i p) e = go (eqb n 0) refl e
+  where
+    go : (b : Bool) → eqb n 0 ≡ b → pick b none (some (flawIn (ruling n i p))) ≡ none → n ≡ 0
+    go true f g = eqb-true n 0 f
+    go false f g = no-flaw g
+
+none-ruled : (r : Ruling) → numberOf r ≡ 0 → ruled r ≡ none
+none-ruled r e = ap (λ (b : Bool). pick b none (some (flawIn r))) (eq-eqb (numberOf r) 0 e)
 
 module _ (l : List ℕ) (places counts targets : ℕ) where
   pub accepted : readAgainst l places counts targets ≡ none → Accepted l places counts targets
@@ -56,7 +67,6 @@ module _ (l : List ℕ) (places counts targets : ℕ) where
       let paths-not = flawed-none (badCount (m .links) k) flaw.Paths none (mesh-not .1) in
       let room-not = flawed-none (lacking l places counts targets) flaw.NoRoom _ (h .1) in
       let look-not = before-none (looked (m .longest) l HEAD 0 k) _ (room-not .1) in
-      let fan-not = flawed-none (unjudged l) flaw.NotAFan none (look-not .1) in
       let c = neither-wanting (ltb (length l) HEAD) (not (eqb (lengthAt l) (length l - 4))) refl (cut-not .0) in
       let p = neither-wanting (eqb k 0) (ltb (m .links) k) refl (paths-not .0) in
       let r = neither-wanting (short m k places counts) (ltb targets k) refl (room-not .0) in
@@ -72,7 +82,7 @@ module _ (l : List ℕ) (places counts targets : ℕ) where
         room-counts = held .1;
         room-targets = ltb-false targets k (r .1);
         looks = look-not .0;
-        is-fan = eqb-true _ 0 (not-false _ (fan-not .0));
+        is-fan = ruled-none (sheetRuling l) (look-not .1);
       }
 
   pub accepts : Accepted l places counts targets → readAgainst l places counts targets ≡ none
@@ -86,7 +96,7 @@ module _ (l : List ℕ) (places counts targets : ℕ) where
       (none-flawed flaw.Paths (neither (ne-eqb k 0 (a .some-path)) (le-ltb (m .links) k (a .few))) refl))))
       (none-flawed flaw.NoRoom (neither (enough m k places counts (a .room) (a .room-counts)) (le-ltb targets k (a .room-targets)))
       (none-before (a .looks)
-      (none-flawed flaw.NotAFan (ap not (eq-eqb _ 0 (a .is-fan))) refl)))
+      (none-ruled (sheetRuling l) (a .is-fan))))
 
 -- what stands against writing so many bytes into room for so many, where the judge tells n
 abbrev pub writeFlaw : (n bytes room : ℕ) → Option Flaw

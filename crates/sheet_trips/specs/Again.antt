@@ -11,35 +11,19 @@ use lib.ListN.{length, take, drop, length-drop, take-append-drop}
 use lib.Seq.{take-add, drop-drop, drop-cons, drop-length}
 use borrow.Author.Tests.{eqb-true, not-false}
 use Rattle.octets.specs.Big.{Bytes, big, big-number}
-use Rattle.sheet.specs.Flaws.{flawed-none, before-none}
+use Rattle.sheet.specs.Flaws.{flawed-none}
 use Rattle.sheet.specs.Format.{HEAD, fields, relaysBytes, pathBytes, pathsBytes, bodyOf, sheetOf, versionAt, kindAt, sizeAt, countAt, sourceAt, hopsAt, after, relaysAt, pathsAt}
 use Rattle.sheet.specs.Lengths.{relays-count, paths-length}
-use Rattle.sheet.specs.Lent.{Within}
 use Rattle.sheet.specs.declared.Flaw.the-variants as flaw
-use Rattle.sheet_take.specs.Looking.{Fine, fine, looked-more}
-use Rattle.sheet_take.specs.Says.{looked, wrongAt}
+use Rattle.sheet_take.specs.Looking.{looked-first}
+use Rattle.sheet_take.specs.Says.{looked}
 use Rattle.sheet_check.specs.Says.{meshAt, sheetPaths}
 use Rattle.sheet_trips.specs.Accepted.{Accepted}
 
--- ---- paths that nothing stands against
-
--- one of them, and the rest
-pub looked-first : (longest : ℕ) (l : List ℕ) (at i k : ℕ) → looked longest l at i (suc k) ≡ none → Fine longest l at × (looked longest l (after l at) (suc i) k ≡ none)
-looked-first longest l at i k e =
-    let r = before-none (wrongAt longest l at i) (looked longest l (after l at) (suc i) k) (sym (looked-more longest l at i k) ∙ e) in
-    (fine longest l at i (r .0), r .1)
-
+-- after the last path the bytes end
 pub looked-end : (longest : ℕ) (l : List ℕ) (at i : ℕ) → looked longest l at i 0 ≡ none → at ≡ length l
 unfolding looked
 looked-end longest l at i e = eqb-true at (length l) (not-false _ (flawed-none (not (eqb at (length l))) flaw.LeftOver none e .0))
-
--- no path is longer than the longest
-pub looked-within : (longest : ℕ) (l : List ℕ) (at i k : ℕ) → looked longest l at i k ≡ none → Within longest (pathsAt l at k)
-unfolding pathsAt
-looked-within longest l at i zero e = tt
-looked-within longest l at i (suc k) e =
-    let r = looked-first longest l at i k e in
-    (omega (arith, relays-count l (at + 2) (hopsAt l at), r .0 .short), looked-within longest l (after l at) (suc i) k (r .1))
 
 module _ (l : List ℕ) (b : Bytes l) where
   -- n bytes and what follows them, after a place

@@ -33,11 +33,11 @@ use Rattle.sheet_trips.specs.TripsRead.{ReadsBack, write-read}
 use Rattle.sheet_trips.specs.TripsWrite.{read-write}
 
 -- a result that is no refusal: nothing stood against it
-wrote-fine : (o : Option Flaw) (n bytes : ℕ) → wrote 0 n ≡ tellWritten o bytes → (o ≡ none) × (n ≡ bytes)
+wrote-fine : (o : Option Flaw) (n bytes : ℕ) → wrote 0 0 0 n ≡ tellWritten o bytes → (o ≡ none) × (n ≡ bytes)
 wrote-fine none n bytes e = (refl, cc)
 wrote-fine (some f) n bytes e = let z : flawNumber f ≡ 0 = cc in absurd (eqb-false (flawNumber f) 0 (flaw-some f) z)
 
-read-fine : (o : Option Flaw) (a b s k kind size source n : ℕ) → reads 0 0 a b s k ≡ tellRead o kind size source n
+read-fine : (o : Option Flaw) (a b s k kind size source n : ℕ) → reads 0 0 0 a b s k ≡ tellRead o kind size source n
     → (o ≡ none) × (a ≡ kind) × (b ≡ size) × (s ≡ source) × (k ≡ n)
 read-fine none a b s k kind size source n e = (refl, cc, cc, cc, cc)
 read-fine (some f) a b s k kind size source n e = let z : flawNumber f ≡ 0 = cc in absurd (eqb-false (flawNumber f) 0 (flaw-some f) z)
@@ -84,8 +84,8 @@ module _ (kind size s : ℕ) (targets places counts out : List ℕ) where
         record {
           fan = reading-unique r (reading.Fan (record { kind = kind; size = size }) s k)
               (v .told ∙ ap (λ (o : Option Flaw). tellRead o (kindAt l) (sizeAt l) (sourceAt l) (countAt l)) nothing
-              ∙ ap₂ (λ (x y : ℕ). reads 0 0 x y (sourceAt l) (countAt l)) (back .kind-is) (back .size-is)
-              ∙ ap₂ (reads 0 0 kind size) (back .source-is) (back .count-is));
+              ∙ ap₂ (λ (x y : ℕ). reads 0 0 0 x y (sourceAt l) (countAt l)) (back .kind-is) (back .size-is)
+              ∙ ap₂ (reads 0 0 0 kind size) (back .source-is) (back .count-is));
           placed = v .placed ∙ kept _ more ∙ filled-same (k * w) more (back .places-are) (length-take-le (k * w) places (found .room));
           counted = v .counted ∙ kept _ others ∙ filled-same k others (back .counts-are) (length-take-le k counts (found .counted));
           aimed = v .aimed ∙ kept _ ends ∙ filled-same k ends (back .targets-are) refl;

@@ -15,10 +15,11 @@ use Rattle.sheet.specs.Judging.{judged, judged-told, judged-same}
 use Rattle.sheet.specs.Lengths.{counts-length, targets-length}
 use Rattle.sheet.specs.Lent.{Within, places-length, paths-lent}
 use Rattle.sheet_write.specs.Says.{sheet, writeAgainst}
+use Rattle.sheet_take.specs.Looking.{looked-within}
 use Rattle.sheet_check.specs.Says.{meshAt, sheetPaths, sheetTargets, sheetPlaces, sheetCounts}
 use Rattle.sheet_read.specs.Says.{readAgainst}
 use Rattle.sheet_trips.specs.Accepted.{Accepted, accepted, write-grants}
-use Rattle.sheet_trips.specs.Again.{looked-within, sheet-again}
+use Rattle.sheet_trips.specs.Again.{sheet-again}
 
 -- what is written of slices that hold what was read of l, and more after it
 pub record WritesBack (l more others out : List ℕ) : Type 0 where

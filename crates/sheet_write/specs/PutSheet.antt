@@ -67,7 +67,7 @@ module _ (kind size s k : ℕ) (places counts out : List ℕ) (a : Sheeted kind 
     put-done {v} {out₁} {out₂} l wide p q =
         let o = against-is false (le-ltb (length out) (n + 16) l) in
         record {
-          told = ap (wrote 0) (sym long) ∙ ap (λ (x : Option Flaw). tellWritten x (length (bytes kind size s k places counts))) (sym o);
+          told = ap (wrote 0 0 0) (sym long) ∙ ap (λ (x : Option Flaw). tellWritten x (length (bytes kind size s k places counts))) (sym o);
           held = whole ∙ ap (λ (x : Option Flaw). settled x (bytes kind size s k places counts ++ drop (length (bytes kind size s k places counts)) out) out) (sym o);
         }
       where
