@@ -67,6 +67,7 @@ enum {
   GUST_HOPS = 34,            /* a path with no hops, or more than the longest has; its path */
   GUST_NOT_A_FAN = 35,       /* what is to be written fails the judge */
   GUST_LEFT_OVER = 36,       /* bytes are left over */
+  GUST_LONE_PATH = 37,       /* a sheet with a single path of a two-level mesh */
   /* Frames that arrive: */
   GUST_FRAME_SEEN = 41,      /* a frame of this number was passed before */
   GUST_FRAME_OLD = 42        /* the number is neither ahead of the newest nor among the newest 64 */
@@ -84,7 +85,7 @@ uint64_t gust_next_hop(uint64_t kind, uint64_t size, uint64_t source, uint64_t t
 /* Plans a fan from `source` to the targets, numbers of 8 bytes each, big-endian, and writes its sheet (docs/SHEETS.md) at the start of `out`: a path to
  * each target in their order, none longer than the longest, that meet nowhere but at the source. Which fan it is, where there are several, is the
  * library's choice. Bytes of `out` after the sheet stay as they were. Numbers, in this order: 10 where `targets_len` is no multiple of 8; 1, 2, 3, 4, 5, 6, 7;
- * and 8 exactly where `out_len` is below 16 + k * (2 + 8 * longest), though the sheet itself may be shorter. */
+ * 37 for a single target in a two-level mesh; and 8 exactly where `out_len` is below 16 + k * (2 + 8 * longest), though the sheet itself may be shorter. */
 uint64_t gust_plan(uint64_t kind, uint64_t size, uint64_t source, const uint8_t *targets, size_t targets_len, uint8_t *out, size_t out_len);
 
 /* ---- the library's routines over numbers and slices */
@@ -157,14 +158,14 @@ GustAnswer gust_bundle_survivors(uint64_t kind, uint64_t size, uint64_t source, 
                                  const uint64_t *counts, size_t counts_len, const uint64_t *stopped, size_t stopped_len, const uint64_t *cuts, size_t cuts_len,
                                  uint64_t *ends, size_t ends_len, uint64_t *hops, size_t hops_len, uint64_t *wholes, size_t wholes_len);
 
-/* Writes the sheet of a fan at the start of `out`; the value is its length in bytes. Bytes after it stay as they were. Numbers: 35 where the judge tells a
- * number but 8; 8 where it tells 8, or where `out_len` is below the length of the sheet. */
+/* Writes the sheet of a fan at the start of `out`; the value is its length in bytes. Bytes after it stay as they were. Numbers: 37 for kind 2 and a single
+ * target, whatever else is asked; 35 where the judge tells a number but 8; 8 where it tells 8, or where `out_len` is below the length of the sheet. */
 GustAnswer gust_write_sheet(uint64_t kind, uint64_t size, uint64_t source, const uint64_t *targets, size_t targets_len, const uint64_t *places,
                             size_t places_len, const uint64_t *counts, size_t counts_len, uint8_t *out, size_t out_len);
 
 /* Reads one sheet, all of `bytes`: fills places, counts and targets with its k paths as said above; elements beyond them stay as they were. Returns kind, size,
- * source and k. Numbers, in this order: 30 (fewer than 16 bytes, or a wrong length field), 31, 32, 33, 8 where there are fewer than k * W places, k counts or
- * k targets; path by path 30 (its two bytes of hops are missing), 34 with its path, 30 (its relays run out); 36; 2; 5, 6, 7, each with its place, which is the
+ * source and k. Numbers, in this order: 30 (fewer than 16 bytes, or a wrong length field), 31, 32, 33, 37 (a single path of a two-level mesh), 8 where there are
+ * fewer than k * W places, k counts or k targets; path by path 30 (its two bytes of hops are missing), 34 with its path, 30 (its relays run out); 36; 2; 5, 6, 7, each with its place, which is the
  * path that ends in that target; 22 and 24 path by path, with path and place. docs/SHEETS.md says what to mend. */
 GustReading gust_read_sheet(const uint8_t *bytes, size_t bytes_len, uint64_t *places, size_t places_len, uint64_t *counts, size_t counts_len,
                             uint64_t *targets, size_t targets_len);
@@ -206,7 +207,8 @@ enum class Reason : uint64_t {
   kTargetIsSource = GUST_TARGET_IS_SOURCE,
   kTargetAgain = GUST_TARGET_AGAIN,
   kNoRoom = GUST_NO_ROOM,
-  kUnreadable = GUST_UNREADABLE
+  kUnreadable = GUST_UNREADABLE,
+  kLonePath = GUST_LONE_PATH
 };
 
 /* The reason and its place; true where all is well. */

@@ -136,6 +136,7 @@ Bytes plan(const Mesh &mesh, uint64_t s, const Bytes &asked, size_t room) {
   } else {
     for (size_t i = 0; i < asked.size(); i += 8) targets.push_back(model::number(asked, i, 8));
     told = mesh.request(s, targets);
+    if (!told.number && mesh.lone(targets.size())) told.number = 37;
     if (!told.number && room < mesh.most(targets.size())) told.number = 8;
   }
   const uint64_t code = gust_plan(mesh.kind, mesh.size, s, in.data(), in.size(), out.data(), out.size());
@@ -241,11 +242,42 @@ void cases() {
   is("case H", h.counts == Words{3, 4} && Words(h.places.begin(), h.places.begin() + 4) == Words{0, 1, 5, 4} &&
                    Words(h.places.begin() + 11, h.places.begin() + 16) == Words{0, 2, 3, 7, 6});
   is("case I", planned(1, 1, 0, {1}) == Bytes{0, 0, 0, 22, 1, 1, 1, 1, 0, 0, 0, 0, 0, 0, 0, 0, 0, 1, 0, 0, 0, 0, 0, 0, 0, 1});
-  is("case J", refused(1, 32, 0, {1}) == 0 && refused(1, 33, 0, {1}) == 256 && refused(1, 0, 0, {1}) == 256 && refused(2, 5, 0, {1}) == 0 &&
-                   refused(2, 6, 0, {1}) == 256);
+  is("case J", refused(1, 32, 0, {1}) == 0 && refused(1, 33, 0, {1}) == 256 && refused(1, 0, 0, {1}) == 256 && refused(2, 5, 0, {1, 2}) == 0 &&
+                   refused(2, 6, 0, {1, 2}) == 256);
   is("case K", refused(2, 3, 0, {1, 2, 4, 8}) == 0 && refused(2, 3, 0, {1, 2, 4, 8, 16}) == 4 * 256);
-  is("case L", refused(2, 1, 7, {0}) == 0 && refused(2, 1, 8, {0}) == 2 * 256 && refused(2, 1, 0, {7}) == 0 && refused(2, 1, 0, {8}) == 5 * 256);
+  is("case L", refused(2, 1, 7, {0, 1}) == 0 && refused(2, 1, 8, {0, 1}) == 2 * 256 && refused(2, 1, 0, {7, 1}) == 0 && refused(2, 1, 0, {8, 1}) == 5 * 256);
   is("case M", refused(1, 3, 0, {1, 0, 1}) == 6 * 256 + 1);
+}
+
+// Lone paths: refused as sheets of a two-level mesh, after 10 and 1 to 7 and before 8; cubes keep them, and so does the planner in memory.
+void lone() {
+  const auto is = [](const char *what, bool ok) { held(what, ok, {2, 1}, 0); };
+  const auto code = [](uint64_t kind, uint64_t size, uint64_t s, const Bytes &asked, size_t room) {
+    Lent<uint8_t> in(asked), out(room);
+    return gust_plan(kind, size, s, in.data(), in.size(), out.data(), out.size());
+  };
+  const Bytes five = bytes_of({5});
+  for (size_t room : {size_t{0}, size_t{97}, size_t{98}, size_t{999}}) is("lone: 37", code(2, 1, 0, five, room) == 9472);
+  is("lone: 5", code(2, 1, 0, bytes_of({8}), 0) == 1280);
+  is("lone: 6", code(2, 1, 0, bytes_of({0}), 0) == 1536);
+  is("lone: 2", code(2, 1, 8, five, 0) == 512);
+  is("lone: 1", code(2, 6, 0, five, 0) == 256);
+  is("lone: 10", code(2, 1, 0, Bytes(7), 0) == 2560);
+  is("lone: a cube's", code(1, 1, 0, bytes_of({1}), 34) == 0 && code(1, 1, 0, bytes_of({1}), 33) == 2048);
+  is("lone: two", code(2, 1, 0, bytes_of({5, 1}), 179) == 2048 && code(2, 1, 0, bytes_of({5, 1}), 180) == 0);
+  for (uint64_t m = 1; m <= 5; ++m) {
+    const Mesh mesh{2, m};
+    Words target{mesh.relays() - 1}, places(mesh.width()), counts(1);
+    same("lone: the planner", mesh, 0, gust_fan(2, m, 0, target.data(), 1, places.data(), places.size(), counts.data(), 1).number, 0);
+    same("lone: the judge", mesh, 0, gust_judge(2, m, 0, target.data(), 1, places.data(), places.size(), counts.data(), 1).number, 0);
+    for (uint64_t size : {m, uint64_t{0}, uint64_t{9}})
+      for (uint64_t s : {uint64_t{0}, mesh.relays()})
+        for (size_t k : {size_t{0}, size_t{1}}) {
+          Lent<uint8_t> out(300);
+          answered("writer", mesh, s, gust_write_sheet(2, size, s, target.data(), 1, places.data(), k * places.size(), counts.data(), k, out.data(), out.size()), {37, 0, 0}, 0);
+          held("writer: bytes", out.untouched(), mesh, s);
+        }
+  }
 }
 
 // The C++ wrapper says the same, and takes an empty span that points nowhere.
@@ -257,6 +289,7 @@ void wrapper() {
   const gust::Outcome at = gust::plan(GUST_CUBE, 3, 0, bytes_of({1, 0, 1}), out);
   held("wrapper: case M", at.reason == gust::Reason::kTargetIsSource && at.place == 1, {1, 3}, 0);
   held("wrapper: nowhere", gust::plan(GUST_CUBE, 3, 0, none, none).reason == gust::Reason::kNoTarget, {1, 3}, 0);
+  held("wrapper: a lone path", gust::plan(GUST_TWO_LEVEL, 1, 0, bytes_of({5}), none).reason == gust::Reason::kLonePath, {2, 1}, 0);
   held("wrapper: no room", gust::next_hop(GUST_CUBE, 3, 0, 1, none).reason == gust::Reason::kNoRoom, {1, 3}, 0);
 }
 
@@ -271,8 +304,9 @@ struct Fan {
 Fan fan(const Mesh &mesh, size_t k) {
   const uint64_t s = below(mesh.relays());
   const Words targets = aims(mesh, s, k);
-  const model::Reading r = model::read(plan(mesh, s, bytes_of(targets), mesh.most(k)), ~size_t{0}, 32, 32);
-  return {mesh, s, r.targets, r.places, r.counts};
+  Words places(k * mesh.width()), counts(k);
+  same("fan", mesh, s, gust_fan(mesh.kind, mesh.size, s, targets.data(), k, places.data(), places.size(), counts.data(), k).number, 0);
+  return {mesh, s, targets, places, counts};
 }
 
 void judged(const Fan &f, const Failed &fails, size_t e, size_t h, size_t w) {
@@ -313,6 +347,7 @@ void judged(const Fan &f, const Failed &fails, size_t e, size_t h, size_t w) {
     Lent<uint8_t> out(room);
     uint64_t number = told.number == 0 || told.number == 8 ? told.number : 35;
     if (!number && room < sheet.size()) number = 8;
+    if (m.lone(k)) number = 37;
     answered("writer", m, f.source,
              gust_write_sheet(m.kind, m.size, f.source, targets.data(), targets.size(), places.data(), places.size(), counts.data(), counts.size(),
                               out.data(), out.size()),
@@ -452,6 +487,7 @@ int main(int count, char **words) {
   pairs();
   distances();
   plans();
+  lone();
   wrapper();
   fans();
   sheets();
@@ -462,11 +498,11 @@ int main(int count, char **words) {
              {"next hop", routed},
              {"route", routed},
              {"distance", {0, 1, 2, 5, 9}},
-             {"plan", {0, 1, 2, 3, 4, 5, 6, 7, 8, 10}},
+             {"plan", {0, 1, 2, 3, 4, 5, 6, 7, 8, 10, 37}},
              {"judge", found},
              {"survivors", found},
-             {"writer", {0, 8, 35}},
-             {"reader", {0, 2, 5, 6, 7, 8, 22, 24, 30, 31, 32, 33, 34, 36}}});
+             {"writer", {0, 8, 35, 37}},
+             {"reader", {0, 2, 5, 6, 7, 8, 22, 24, 30, 31, 32, 33, 34, 36, 37}}});
   std::printf("host: %llu comparisons, all the same\n", compared);
   return 0;
 }

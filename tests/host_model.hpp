@@ -124,6 +124,9 @@ struct Mesh {
     return {s == t ? uint64_t{6} : 0, 0, 0};
   }
 
+  // A single path of a two-level mesh, which no sheet holds.
+  bool lone(size_t k) const { return kind == 2 && k == 1; }
+
   uint64_t most(size_t k) const { return 16 + k * (2 + 8 * longest()); }
 
   // What the judge says; `lacking` where another lent slice is too short.
@@ -263,6 +266,7 @@ inline Reading read(const Bytes &bytes, size_t places, size_t counts, size_t tar
   if (!r.mesh.known()) return flaw(32);
   r.k = bytes[7];
   if (r.k == 0 || r.k > r.mesh.links()) return flaw(33);
+  if (r.mesh.lone(r.k)) return flaw(37);
   const size_t w = r.mesh.width();
   if (places < r.k * w || counts < r.k || targets < r.k) return flaw(8);
   r.source = number(bytes, 8, 8);

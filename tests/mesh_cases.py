@@ -59,7 +59,7 @@ def asked():
         yield " ".join(map(str, (2, *case)))
     for case in judge_model.cases():
         yield "3 " + judge_model.asked(*case)
-    yield from sheet_model.asked(sheet_model.small(), False)
+    yield from sheet_model.asked(*sheet_model.small())
     for case in plan_model.cases():
         yield "4 " + plan_model.asked(*case)
 
@@ -72,7 +72,7 @@ def answered():
         yield from parts_told(*case)
     for case in judge_model.cases():
         yield judge_model.answered(*case)
-    yield from sheet_model.answered(sheet_model.small(), False)
+    yield from sheet_model.answered(*sheet_model.small())
 
 
 def judge(path):

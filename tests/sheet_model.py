@@ -3,7 +3,8 @@
 
     python3 tests/sheet_model.py            both round trips over every case, case I, and the sheets of docs/SHEETS.md
     python3 tests/sheet_model.py fans       how many fans there are
-    python3 tests/sheet_model.py stdin N    what crates/mesh_cases can be asked of fan N: every byte of its sheet damaged, the sheet cut to every length
+    python3 tests/sheet_model.py stdin N    what crates/mesh_cases can be asked of fan N: every byte of its sheet damaged, the sheet cut to every length; of lone
+                                            paths, where N is how many fans there are
     python3 tests/sheet_model.py stdout N   what it is to answer
 
 A line that asks the writer: 5, kind, size, source; targets, places and counts, each with its length before it; how many bytes are lent.
@@ -24,6 +25,11 @@ LENT_BYTE = 249
 
 # ---- the writer and the reader
 
+def lone(kind, k):
+    """A single path of a two-level mesh."""
+    return kind == 2 and k == 1
+
+
 def sheet(kind, size, s, paths):
     """The bytes of paths, each a list of the relays after the source."""
     body = bytes([1, kind, size, len(paths)]) + s.to_bytes(8, "big")
@@ -34,6 +40,8 @@ def sheet(kind, size, s, paths):
 
 def write(kind, size, s, targets, places, counts, out):
     """Number, length of the sheet, and the lent bytes afterwards."""
+    if lone(kind, len(targets)):
+        return 37, 0, out
     told = judge(kind, size, s, targets, places, counts)[0]
     if told:
         return 8 if told == 8 else 35, 0, out
@@ -77,6 +85,8 @@ def read(data, places, counts, targets):
         return refused(32)
     if not 1 <= k <= mesh.links:
         return refused(33)
+    if lone(kind, k):
+        return refused(37)
     width = mesh.longest + 1
     if len(places) < k * width or len(counts) < k or len(targets) < k:
         return refused(8)
@@ -100,19 +110,31 @@ def with_length(data):
 
 
 def large():
-    """As many paths as links in the largest meshes, and the longest plain route."""
+    """As many paths as links in the largest meshes, and a plain route through all slots of order 5, with a second path beside it."""
     for kind, size in ((1, 32), (2, 5)):
         mesh = mesh_of(kind, size)
         near = [v for v in (2**i for i in range(37)) if v < mesh.relays and mesh.linked(0, v)]
         yield kind, size, 0, near, *laid(mesh, [[0, v] for v in near])
     mesh = mesh_of(2, 5)
-    yield 2, 5, 0, [mesh.relays - 1], *laid(mesh, [mesh.route(0, mesh.relays - 1)])
+    route = mesh.route(0, mesh.relays - 1)
+    beside = next(v for v in near if v not in route)
+    yield 2, 5, 0, [mesh.relays - 1, beside], *laid(mesh, [route, [0, beside]])
 
 
 def fans():
+    """Those that a sheet may hold: no lone paths."""
     for kind, size, s, targets in FANS:
-        yield kind, size, s, targets, *fan(kind, size, s, targets)
+        if not lone(kind, len(targets)):
+            yield kind, size, s, targets, *fan(kind, size, s, targets)
     yield from large()
+
+
+def lone_fans():
+    """A lone path of each order, of one hop, and one of many hops in the largest."""
+    for size in range(1, 6):
+        yield size, *laid(mesh_of(2, size), [[0, 1]]), [1]
+    mesh = mesh_of(2, 5)
+    yield 5, *laid(mesh, [mesh.route(0, mesh.relays - 1)]), [mesh.relays - 1]
 
 
 def bytes_of(kind, size, s, targets, places, counts):
@@ -141,9 +163,51 @@ def writer_cases(some):
         yield kind, size, s, [s] + targets[1:], places, counts, n
         yield kind, size, mesh_of(kind, size).relays, targets, places, counts, n
         yield 3, size, s, targets, places, counts, n
+        # one target: 37 in a two-level mesh, and in a cube what the judge says
+        yield kind, size, s, targets[:1], places, counts, n
         # a request that is wrong comes before room that is wanting
         yield kind, 0, s, targets, [], [], 0
     yield WORD, WORD, WORD, [], [], [], 0
+
+
+def lone_writes():
+    """37 alone, and before each other number: kind 2 and one target, whatever else is wrong."""
+    for size, places, counts, targets in lone_fans():
+        n = 18 + 8 * counts[0]
+        for room in (0, n - 1, n, n + 3):
+            yield 2, size, 0, targets, places, counts, room
+        for wrong in (0, 6, 9, 258, WORD):
+            yield 2, wrong, 0, targets, places, counts, n
+        yield 2, size, WORD, targets, places, counts, n
+        yield 2, size, 0, [0], places, counts, n
+        yield 2, size, 0, [WORD], [], [], 0
+        yield 2, size, 1, targets, places, counts, 0
+        yield 2, size, 0, targets, places[:-1], counts, n
+        yield 2, size, 0, targets, places, [], n
+        yield 2, size, 0, targets, [1] + places[1:], counts, n
+    # no target, and one of another kind, are not 37
+    yield 2, 1, 0, [], [], [], 0
+    yield 258, 1, 0, [1], [], [], 0
+    yield 3, 1, 0, [1], [], [], 0
+    for n in (1, 2, 32):
+        yield 1, n, 0, [1], *laid(mesh_of(1, n), [[0, 1]]), 26
+
+
+def lone_reads():
+    """37 alone, before room and all that comes after it, and after 30 to 33; a cube with one path is read."""
+    for size, places, counts, targets in lone_fans():
+        data, n = list(sheet(2, size, 0, [places[1: 1 + counts[0]]])), len(places)
+        for room in ((n, 1, 1), (n - 1, 1, 1), (n, 0, 1), (0, 0, 0)):
+            yield data, room
+        for at, value in ((3, 0), (4, 0), (4, 2), (5, 0), (5, 3), (6, 0), (6, 6), (7, 0), (7, 2), (7, 9), (8, 255), (17, 0), (17, 255), (25, 255), (25, 0)):
+            yield data[:at] + [value] + data[at + 1:], (n, 1, 1)
+            yield data[:at] + [value] + data[at + 1:], (0, 0, 0)
+        for cut in (data[:16], data[:17], data[:-1], data + [0]):
+            yield with_length(cut), (n, 1, 1)
+            yield list(cut), (n, 1, 1)
+    for n in (1, 2, 32):
+        places, counts = laid(mesh_of(1, n), [[0, 1]])
+        yield list(sheet(1, n, 0, [[1]])), (len(places), 1, 1)
 
 
 def damaged(data):
@@ -230,18 +294,18 @@ def run(items):
     return [len(items), *items]
 
 
-def asked(some, damage):
-    for kind, size, s, targets, places, counts, room in writer_cases(some):
+def asked(writes, reads):
+    for kind, size, s, targets, places, counts, room in writes:
         yield words([5, kind, size, s, *run(targets), *run(places), *run(counts), room]).replace(str(FILLER), "F")
-    for data, room in reader_cases(some, damage):
+    for data, room in reads:
         yield words([6, *run(data), *room])
 
 
-def answered(some, damage):
-    for kind, size, s, targets, places, counts, room in writer_cases(some):
+def answered(writes, reads):
+    for kind, size, s, targets, places, counts, room in writes:
         number, n, out = write(kind, size, s, targets, places, counts, [LENT_BYTE] * room)
         yield words(["wrote", number, n, "bytes", *out])
-    for data, room in reader_cases(some, damage):
+    for data, room in reads:
         told, places, counts, targets = read(data, *([HELD] * n for n in room))
         yield words(["read", *told, "places", *places, "counts", *counts, "targets", *targets])
 
@@ -261,7 +325,7 @@ def back_and_there():
     """A sheet that is accepted writes back to the same bytes; how many were. The others meet every number that can come out of a sheet, and no other, the
     judge's on the first path and the last, at the first place and the last."""
     accepted, met = 0, set()
-    for data, room in reader_cases(list(fans()), True):
+    for data, room in (*reader_cases(list(fans()), True), *lone_reads()):
         (number, path, place, kind, size, s, k), places, counts, targets = read(data, *([HELD] * n for n in room))
         met.add((number, "", ""))
         if number == 0:
@@ -274,7 +338,7 @@ def back_and_there():
             hops = len(paths_of(bytes(data), data[7], WORD)[0][path])
             for where in ({"first"} if place == (1 if path or number == 22 else 2) else set()) | ({"last"} if place == hops else set()):
                 met |= {(number, which, where) for which, i in (("first", 0), ("last", data[7] - 1)) if path == i}
-    assert {number for number, _, _ in met} == {0, 8, 30, 31, 32, 33, 34, 36, 2, 5, 6, 7, 22, 24}, met
+    assert {number for number, _, _ in met} == {0, 8, 30, 31, 32, 33, 37, 34, 36, 2, 5, 6, 7, 22, 24}, met
     ends = ("first", "last")
     wanted = {(n, "", e) for n in (5, 6, 7) for e in ends} | {(n, which, where) for n in (22, 24) for which in ends for where in ends}
     assert wanted - met == {(7, "", "first")}, wanted - met
@@ -295,24 +359,34 @@ def worked():
     shown = [" ".join(re.findall(r"\b[0-9a-f]{2}\b", "\n".join(line[:32] for line in block.split("\n")))) for block in blocks]
     second = sheet(1, 2, 0, [[2, 3], [1]])
     assert shown == [in_hex(case_i), in_hex(second)], shown
-    # the table of damaged sheets: number, path and place, and the byte that is changed in the second sheet
-    rows = re.findall(r"^\| (\d+) \| (\d+) \| (\d+) \| byte (\d+) set to ([0-9a-f]{2}) \|", text, re.M)
-    for *told, at, value in rows:
-        bad = list(second[:int(at)] + bytes([int(value, 16)]) + second[int(at) + 1:])
+    # the table of damaged sheets: number, path and place, and the byte that is changed in the second sheet or the first
+    rows = re.findall(r"^\| (\d+) \| (\d+) \| (\d+) \| byte (\d+)( of the first)? set to ([0-9a-f]{2}) \|", text, re.M)
+    for *told, at, first, value in rows:
+        good = case_i if first else second
+        bad = list(good[:int(at)] + bytes([int(value, 16)]) + good[int(at) + 1:])
         assert list(read(bad, *([HELD] * 99,) * 3)[0][:3]) == [int(n) for n in told], (told, at, value)
-    assert {int(row[0]) for row in rows} == {30, 31, 32, 33, 34, 36, 2, 5, 6, 7, 22, 24}, rows
+    assert {int(row[0]) for row in rows} == {30, 31, 32, 33, 37, 34, 36, 2, 5, 6, 7, 22, 24}, rows
 
 
 def small():
-    """The program's own cases are those of two small fans, no byte damaged."""
-    return [f for f in fans() if f[:4] in ((1, 2, 0, [3, 1]), (2, 1, 0, [5, 1]))]
+    """The program's own cases: those of two small fans, no byte damaged, and of lone paths of orders 1 and 2."""
+    some = [f for f in fans() if f[:4] in ((1, 2, 0, [3, 1]), (2, 1, 0, [5, 1]))]
+    writes = [case for case in lone_writes() if len(case[4]) <= 21]
+    reads = [case for case in lone_reads() if case[1][0] <= 21]
+    return [*writer_cases(some), *writes], [*reader_cases(some, False), *reads]
+
+
+def all_of(n):
+    """The cases of fan n, and after the last fan those of lone paths."""
+    some = list(fans())[n:n + 1]
+    return (writer_cases(some), reader_cases(some, True)) if some else (lone_writes(), lone_reads())
 
 
 if __name__ == "__main__":
     if sys.argv[1:] == ["fans"]:
         print(len(list(fans())))
     elif len(sys.argv) > 1:
-        for line in (asked if sys.argv[1] == "stdin" else answered)([list(fans())[int(sys.argv[2])]], True):
+        for line in (asked if sys.argv[1] == "stdin" else answered)(*all_of(int(sys.argv[2]))):
             print(line)
     else:
         there_and_back()

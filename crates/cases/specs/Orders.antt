@@ -32,9 +32,9 @@ pub record Orders : Type 0 where
   pub bundles : (K : Kind) (n s t : ℕ) (room : Bool) → Ordered (mesh.bundleFaultsIn K n s t room)
   pub cube-plan : (n s : ℕ) (targets places counts : List ℕ) → Ordered (doors.planFaults n s targets places counts)
   pub through : (n s d : ℕ) (targets places counts : List ℕ) → Ordered (doors.throughFaults n s d targets places counts)
-  -- a line of text; the host's plan
+  -- a line of text; the host's plan, before 37 and 8
   pub line : (unreadable room : Bool) → Ordered (lineFaults unreadable room)
-  pub plan : (kind size s : ℕ) (bytes out : List ℕ) → Ordered (planFaults kind size s bytes out)
+  pub plan : (kind size s : ℕ) (bytes : List ℕ) → Ordered (planFaults kind size s bytes)
 
 pub orders : Orders
 orders = record {
@@ -49,5 +49,5 @@ orders = record {
   cube-plan = λ n s targets places counts. refl;
   through = λ n s d targets places counts. refl;
   line = λ unreadable room. refl;
-  plan = λ kind size s bytes out. refl;
+  plan = λ kind size s bytes. refl;
 }

@@ -1,6 +1,6 @@
 // The two calls of the region host, exported: bytes in, bytes out, and number * 256 + place as the answer.
 ghost use Rattle.mesh.specs.Kinds.{kindOf};
-ghost use Rattle.region.specs.Says.{Stepped, Planned, planAgainst, targetsIn};
+ghost use Rattle.region.specs.Says.{Stepped, Planned, planCode, targetsIn};
 use mesh::Mesh;
 
 // `region::next_hop`.
@@ -34,7 +34,7 @@ pub extern "C" fn gust_plan(
     targets: &[u8],
     out: &mut [u8],
 ) -> u64
-    ensures { λ r. ⌜ Planned (planAgainst kind size source (now (targets .entry)) (now (out .entry))) kind size source (targetsIn (now (targets .entry))) (now (out .entry)) r (now (out .exit)) ⌝ }
+    ensures { λ r. ⌜ Planned (planCode kind size source (now (targets .entry)) (now (out .entry))) kind size source (targetsIn (now (targets .entry))) (now (out .entry)) r (now (out .exit)) ⌝ }
 {
     region::plan(
         Mesh {

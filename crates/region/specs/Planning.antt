@@ -1,8 +1,8 @@
 -- Why the planner's call keeps its promise: the place of a refusal is small (`request-place`); a fan planned in room enough is written whole (`lay-sheeted`, `lay-answered`);
--- what stands against a list of targets (`list-refused`, `list-short`, `list-done`); and of more than 33 targets the first 33 tell all (`cut-planned`).
+-- what stands against a list of targets (`list-refused`, `list-lone`, `list-short`, `list-done`); and of more than 33 targets the first 33 tell all (`cut-planned`).
 -- Assumes nothing.
 use Prim.Native.Nat.{ℕ, _+_, _-_, _*_, _/_, _%_, _≤_, _<_}
-use mathlib.Core.Path.{_≡_, refl, sym, ap, _∙_, subst}
+use mathlib.Core.Path.{_≡_, refl, sym, ap, ap₂, _∙_, subst}
 use mathlib.Core.Bool.{Bool, true, false, not}
 use mathlib.Core.Logic.{_⊎_, inl, inr, _≢_}
 use mathlib.Core.List.{List, _++_}
@@ -12,11 +12,12 @@ use native.Mathlib.Omega.{arith}
 use lib.Dec.{eqb, leb, ltb}
 use lib.ListN.{length, take, drop}
 use lib.Seq.{sets, take-at}
-use borrow.Author.Tests.{not-false, ltb-true, ltb-false, lt-ltb, le-ltb, eq-eqb, ne-eqb}
+use borrow.Author.Tests.{not-false, eqb-false, ltb-true, ltb-false, lt-ltb, le-ltb, eq-eqb, ne-eqb}
 use Rattle.scan.specs.Scan.{Spot, nowhere, at, pick}
 use Rattle.scan.specs.Laws.{seek-first, true-or}
 use Rattle.answers.specs.Order.{first, refuse, refuse-at, firstAt, isOut, isSame, isAgain}
-use Rattle.answers.specs.Told.{place, against}
+use Rattle.answers.specs.Told.{number, place, against}
+use Rattle.answers.specs.Laws.{number-some}
 use Rattle.answers.specs.declared.Refusal.{Refusal}
 use Rattle.answers.specs.declared.Refusal.the-variants.{Unreadable, UnknownSize, SourceOut, NoTarget, TooMany, TargetOut, TargetIsSource, TargetAgain, NoRoom}
 use Rattle.answers.specs.declared.Checked.{Checked}
@@ -26,12 +27,12 @@ use Rattle.paths.specs.Fan.{Fan}
 use Rattle.mesh.specs.Kinds.{kindOf, meshOf, known}
 use Rattle.mesh.specs.Limits.{mostLinks, known-links, known-width, known-places}
 use Rattle.mesh.specs.Says.{requestAgainst, short}
-use Rattle.mesh.specs.Requests.{Fine, request-fine, checked-fine, request-refused, request-short, request-granted, room-enough}
+use Rattle.mesh.specs.Requests.{Fine, request-fine, checked-fine, room-enough}
 use Rattle.requests.specs.Planned as requests
 use Rattle.requests.specs.Planned.{not-both}
 use Rattle.planner.specs.Needs as planner
 use Rattle.sheet.specs.Format.{relaysAt}
-use Rattle.sheet.specs.Says.{settled, flawed}
+use Rattle.sheet.specs.Says.{settled, flawed, lone}
 use Rattle.sheet.specs.Pieces.{at-front}
 use Rattle.sheet.specs.Lengths.{relays-count}
 use Rattle.sheet.specs.Most.{fan-sheet-most}
@@ -44,7 +45,7 @@ use Rattle.sheet_write.specs.Says as write
 use Rattle.sheet_write.specs.Needs.{Sheeted}
 use Rattle.sheet_write.specs.Writing.{judged-sheeted}
 use Rattle.sheet.specs.declared.Written.{Written}
-use Rattle.region.specs.Says.{codeOf, most, targetsIn, listAgainst, planAgainst, Answered, Planned}
+use Rattle.region.specs.Says.{codeOf, coded, LONE, most, targetsIn, sheetCode, listCode, planCode, Answered, Planned}
 use Rattle.region.specs.Needs.{Roomy, Layable, few}
 
 some-inj : {x y : Refusal} → some x ≡ some y → x ≡ y
@@ -134,51 +135,72 @@ module _ (kind size s : ℕ) (targets : List ℕ) where
 
 -- ---- a list of targets
 
-pub refusal : {o : Option Refusal} {why : Refusal} {r : ℕ} (kind size s : ℕ) (targets out : List ℕ) → some why ≡ o → r ≡ codeOf (some why) → Planned o kind size s targets out r out
-refusal kind size s targets out e p = record {
-  told = p ∙ ap codeOf e;
-  answered = λ z. not-both (sym e) z;
-  refused = λ w z. refl;
-}
+-- a refusal is told by a number that is not 0
+pub code-some : (why : Refusal) → codeOf (some why) ≢ 0
+code-some why z = eqb-false (number why) 0 (number-some why) (omega (arith, z))
 
-abbrev want : (kind size : ℕ) (targets out : List ℕ) → Bool
-want kind size targets out = ltb (length out) (most (meshOf kind size) (length targets))
+pub refusal : {n r : ℕ} (kind size s : ℕ) (targets out : List ℕ) → n ≢ 0 → r ≡ n → Planned n kind size s targets out r out
+refusal kind size s targets out ne p = record { told = p; answered = λ z. absurd (ne z); refused = λ z. refl }
+
+-- what was found of the request, and then what comes after it
+told-as : (kind size s : ℕ) (targets out : List ℕ) {o : Option Refusal} → o ≡ requestAgainst (kindOf kind) size s targets false
+    → coded o (sheetCode kind size (length targets) out) ≡ listCode kind size s targets out
+told-as kind size s targets out e = ap (λ (o : Option Refusal). coded o (sheetCode kind size (length targets) out)) e
 
 module _ (kind size s : ℕ) (targets out : List ℕ) {c : Checked} (e : against c ≡ requestAgainst (kindOf kind) size s targets false) where
-  pub list-refused : {why : Refusal} {r : ℕ} → c ≡ checked.Refused why → r ≡ codeOf (some why) → Planned (listAgainst kind size s targets out) kind size s targets out r out
-  list-refused f p = refusal kind size s targets out (request-refused (kindOf kind) size s targets e (want kind size targets out) f) p
+  pub list-refused : {why : Refusal} {r : ℕ} → c ≡ checked.Refused why → r ≡ codeOf (some why) → Planned (listCode kind size s targets out) kind size s targets out r out
+  list-refused {why} f p = let o = told-as kind size s targets out (sym (ap against f) ∙ e) in refusal kind size s targets out (λ z. code-some why (o ∙ z)) (p ∙ o)
 
-  pub list-known : c ≡ checked.Fine → (known kind size ≡ true) × (length targets ≤ meshOf kind size .links)
-  list-known f = let fine = checked-fine (kindOf kind) size s targets e f in (fine .known, fine .sound .few)
+  module _ (f : c ≡ checked.Fine) where
+    pub list-known : (known kind size ≡ true) × (length targets ≤ meshOf kind size .links)
+    list-known = let fine = checked-fine (kindOf kind) size s targets e f in (fine .known, fine .sound .few)
 
-  pub list-short : {m r : ℕ} → c ≡ checked.Fine → m ≡ most (meshOf kind size) (length targets) → length out < m → r ≡ codeOf (some NoRoom)
-      → Planned (listAgainst kind size s targets out) kind size s targets out r out
-  list-short {m} f q h p = refusal kind size s targets out
-      (request-short (kindOf kind) size s targets e {room = want kind size targets out} f (ap (ltb (length out)) q) (lt-ltb (length out) m h)) p
+    -- what code has of a lone path, and of the most bytes of a sheet
+    module _ {b : Bool} (is : b ≡ lone kind (length targets)) where
+      pub list-lone : {r : ℕ} → b ≡ true → r ≡ LONE → Planned (listCode kind size s targets out) kind size s targets out r out
+      list-lone t p =
+          let rest = pick (ltb (length out) (most (meshOf kind size) (length targets))) (codeOf (some NoRoom)) 0 in
+          let o : LONE ≡ listCode kind size s targets out = ap (λ (x : Bool). pick x LONE rest) (sym t ∙ is) ∙ told-as kind size s targets out (sym (ap against f) ∙ e) in
+          refusal kind size s targets out (λ z. let y : LONE ≡ 0 = o ∙ z in absurd (omega (arith, y))) (p ∙ o)
 
-  pub list-layable : {m places counts : ℕ} → c ≡ checked.Fine → m ≡ most (meshOf kind size) (length targets) → m ≤ length out → Roomy places counts
-      → Layable kind size s targets places counts (length out)
-  list-layable f q h room = record { clear = sym e ∙ ap against f; roomy = room; long = omega (arith, q) }
+      module _ (several : b ≡ false) {m : ℕ} (q : m ≡ most (meshOf kind size) (length targets)) where
+        roomed : (x : Bool) → ltb (length out) m ≡ x → pick x (codeOf (some NoRoom)) 0 ≡ listCode kind size s targets out
+        roomed x h =
+            ap₂ (λ (y x : Bool). pick y LONE (pick x (codeOf (some NoRoom)) 0)) (sym several ∙ is) (sym h ∙ ap (ltb (length out)) q) ∙ told-as kind size s targets out (sym (ap against f) ∙ e)
 
-  pub list-done : {m : ℕ} {out₁ : List ℕ} → c ≡ checked.Fine → m ≡ most (meshOf kind size) (length targets) → m ≤ length out → Answered kind size s targets out out₁
-      → Planned (listAgainst kind size s targets out) kind size s targets out 0 out₁
-  list-done {m} {out₁} f q h a =
-      let o : none ≡ listAgainst kind size s targets out = request-granted (kindOf kind) size s targets e {room = want kind size targets out} f (ap (ltb (length out)) q) (le-ltb (length out) m h) in
-      record { told = ap codeOf o; answered = λ z. a; refused = λ why z. not-both z (sym o) }
+        pub list-short : {r : ℕ} → length out < m → r ≡ codeOf (some NoRoom) → Planned (listCode kind size s targets out) kind size s targets out r out
+        list-short h p = let o = roomed true (lt-ltb (length out) m h) in refusal kind size s targets out (λ z. code-some NoRoom (o ∙ z)) (p ∙ o)
+
+        pub list-layable : {places counts : ℕ} → m ≤ length out → Roomy places counts → Layable kind size s targets places counts (length out)
+        list-layable h room = record { clear = sym e ∙ ap against f; roomy = room; long = omega (arith, q) }
+
+        pub list-done : {out₁ : List ℕ} → m ≤ length out → Answered kind size s targets out out₁ → Planned (listCode kind size s targets out) kind size s targets out 0 out₁
+        list-done h a = let o = roomed false (le-ltb (length out) m h) in record { told = o; answered = λ z. a; refused = λ ne. absurd (ne (sym o)) }
 
 -- ---- the first 33 of more targets
 
 -- there are more than any relay has links
-many : (kind size s : ℕ) (targets out : List ℕ) → 32 < length targets → listAgainst kind size s targets out ≡ refuse (not (known kind size)) UnknownSize (refuse (leb (meshOf kind size .relays) s) SourceOut (some TooMany))
-many kind size s targets out h = go (true-or (known kind size))
-  where
-    rest : Option Refusal
-    rest = refuse (leb (meshOf kind size .relays) s) SourceOut (some TooMany)
+module _ (kind size s : ℕ) (targets out : List ℕ) (h : 32 < length targets) where
+  abbrev early : Option Refusal
+  early = refuse (not (known kind size)) UnknownSize (refuse (leb (meshOf kind size .relays) s) SourceOut (some TooMany))
 
-    go : (known kind size ≡ true) ⊎ (known kind size ≡ false) → listAgainst kind size s targets out ≡ refuse (not (known kind size)) UnknownSize rest
-    go (inl k) = let more : meshOf kind size .links < length targets = omega (arith, known-links kind size k) in
-        simp (ne-eqb (length targets) 0 (λ z. omega arith), lt-ltb (meshOf kind size .links) (length targets) more)
-    go (inr u) = simp u
+  many : requestAgainst (kindOf kind) size s targets false ≡ early
+  many = go (true-or (known kind size))
+    where
+      go : (known kind size ≡ true) ⊎ (known kind size ≡ false) → requestAgainst (kindOf kind) size s targets false ≡ early
+      go (inl k) = let more : meshOf kind size .links < length targets = omega (arith, known-links kind size k) in
+          simp (ne-eqb (length targets) 0 (λ z. omega arith), lt-ltb (meshOf kind size .links) (length targets) more)
+      go (inr u) = simp u
+
+  -- so that nothing after the request is told
+  many-code : listCode kind size s targets out ≡ coded early 0
+  many-code = ap (λ (o : Option Refusal). coded o (sheetCode kind size (length targets) out)) many
+      ∙ go (not (known kind size)) (leb (meshOf kind size .relays) s) (sheetCode kind size (length targets) out)
+    where
+      go : (u w : Bool) (n : ℕ) → coded (refuse u UnknownSize (refuse w SourceOut (some TooMany))) n ≡ coded (refuse u UnknownSize (refuse w SourceOut (some TooMany))) 0
+      go true w n = refl
+      go false true n = refl
+      go false false n = refl
 
 module _ (l : List ℕ) {k : ℕ} (e : k ≡ few (length l / 8)) where
   pub few-most : (k ≤ 33) × (k * 8 ≤ length l)
@@ -187,6 +209,12 @@ module _ (l : List ℕ) {k : ℕ} (e : k ≡ few (length l / 8)) where
       go : (ltb (length l / 8) 33 ≡ true) ⊎ (ltb (length l / 8) 33 ≡ false) → (k ≤ 33) × (k * 8 ≤ length l)
       go (inl t) = let same : k ≡ length l / 8 = e ∙ simp t in (omega (arith, ltb-true (length l / 8) 33 t), omega arith)
       go (inr f) = let same : k ≡ 33 = e ∙ simp f in (omega arith, omega (arith, ltb-false (length l / 8) 33 f))
+
+-- whether bytes can be read is looked at first
+readable : (kind size s : ℕ) (l out : List ℕ) {b : Bool} → b ≡ eqb (length l % 8) 0
+    → coded (refuse (not b) Unreadable (requestAgainst (kindOf kind) size s (targetsIn l) false)) (sheetCode kind size (length (targetsIn l)) out) ≡ planCode kind size s l out
+readable kind size s l out e =
+    ap (λ (b : Bool). coded (refuse (not b) Unreadable (requestAgainst (kindOf kind) size s (targetsIn l) false)) (sheetCode kind size (length (targetsIn l)) out)) e
 
 module _ (kind size s : ℕ) (l list : List ℕ) {k : ℕ} (e : k ≡ few (length l / 8)) (h : 33 ≤ length list) where
   -- what stands in the list
@@ -206,37 +234,38 @@ module _ (kind size s : ℕ) (l list : List ℕ) {k : ℕ} (e : k ≡ few (lengt
           inr (omega (arith, relays-count l 0 k), omega (arith, relays-count l 0 (length l / 8), ltb-false (length l / 8) 33 f))
 
   pub cut-planned : {list₁ out out₁ : List ℕ} {r : ℕ} → length l % 8 ≡ 0 → list₁ ≡ sets list 0 (relaysAt l 0 k)
-      → Planned (listAgainst kind size s (take k list₁) out) kind size s (take k list₁) out r out₁ → Planned (planAgainst kind size s l out) kind size s (targetsIn l) out r out₁
+      → Planned (listCode kind size s (take k list₁) out) kind size s (take k list₁) out r out₁ → Planned (planCode kind size s l out) kind size s (targetsIn l) out r out₁
   cut-planned {list₁} {out} {out₁} {r} whole p q =
-      go cut-same (subst (λ (x : List ℕ). Planned (listAgainst kind size s x out) kind size s x out r out₁) (cut-taken p) q)
+      go cut-same (subst (λ (x : List ℕ). Planned (listCode kind size s x out) kind size s x out r out₁) (cut-taken p) q)
     where
-      read : listAgainst kind size s (targetsIn l) out ≡ planAgainst kind size s l out
-      read = ap (λ (b : Bool). refuse (not b) Unreadable (listAgainst kind size s (targetsIn l) out)) (sym (eq-eqb (length l % 8) 0 whole))
+      read : listCode kind size s (targetsIn l) out ≡ planCode kind size s l out
+      read = readable kind size s l out (sym (eq-eqb (length l % 8) 0 whole))
 
-      as-read : Planned (listAgainst kind size s (targetsIn l) out) kind size s (targetsIn l) out r out₁ → Planned (planAgainst kind size s l out) kind size s (targetsIn l) out r out₁
-      as-read v = subst (λ (o : Option Refusal). Planned o kind size s (targetsIn l) out r out₁) read v
+      as-read : Planned (listCode kind size s (targetsIn l) out) kind size s (targetsIn l) out r out₁ → Planned (planCode kind size s l out) kind size s (targetsIn l) out r out₁
+      as-read v = subst (λ (n : ℕ). Planned n kind size s (targetsIn l) out r out₁) read v
 
       go : (relaysAt l 0 k ≡ targetsIn l) ⊎ ((32 < length (relaysAt l 0 k)) × (32 < length (targetsIn l)))
-          → Planned (listAgainst kind size s (relaysAt l 0 k) out) kind size s (relaysAt l 0 k) out r out₁ → Planned (planAgainst kind size s l out) kind size s (targetsIn l) out r out₁
-      go (inl same) v = as-read (subst (λ (x : List ℕ). Planned (listAgainst kind size s x out) kind size s x out r out₁) same v)
+          → Planned (listCode kind size s (relaysAt l 0 k) out) kind size s (relaysAt l 0 k) out r out₁ → Planned (planCode kind size s l out) kind size s (targetsIn l) out r out₁
+      go (inl same) v = as-read (subst (λ (x : List ℕ). Planned (listCode kind size s x out) kind size s x out r out₁) same v)
       go (inr more) v =
-          let a = many kind size s (relaysAt l 0 k) out (more .0) in
-          let b = many kind size s (targetsIn l) out (more .1) in
+          let a = many-code kind size s (relaysAt l 0 k) out (more .0) in
+          let b = many-code kind size s (targetsIn l) out (more .1) in
           as-read (record {
-            told = v .told ∙ ap codeOf (a ∙ sym b);
+            told = v .told ∙ a ∙ sym b;
             answered = λ z. never (not (known kind size)) (leb (meshOf kind size .relays) s) (sym b ∙ z);
-            refused = λ why z. v .refused why (a ∙ sym b ∙ z);
+            refused = λ ne. v .refused (λ z. ne (b ∙ sym a ∙ z));
           })
         where
-          never : {A : Type 0} (u w : Bool) → refuse u UnknownSize (refuse w SourceOut (some TooMany)) ≡ none → A
-          never true w z = not-both refl z
-          never false true z = not-both refl z
-          never false false z = not-both refl z
+          never : {A : Type 0} (u w : Bool) → coded (refuse u UnknownSize (refuse w SourceOut (some TooMany))) 0 ≡ 0 → A
+          never true w z = absurd (code-some UnknownSize z)
+          never false true z = absurd (code-some SourceOut z)
+          never false false z = absurd (code-some TooMany z)
 
 -- bytes that are no multiple of 8
-pub unreadable : (kind size s : ℕ) (l out : List ℕ) {r : ℕ} → length l % 8 ≢ 0 → r ≡ codeOf (some Unreadable) → Planned (planAgainst kind size s l out) kind size s (targetsIn l) out r out
-unreadable kind size s l out ne p = refusal kind size s (targetsIn l) out
-    (ap (λ (b : Bool). refuse (not b) Unreadable (listAgainst kind size s (targetsIn l) out)) (sym (ne-eqb (length l % 8) 0 ne))) p
+pub unreadable : (kind size s : ℕ) (l out : List ℕ) {r : ℕ} → length l % 8 ≢ 0 → r ≡ codeOf (some Unreadable) → Planned (planCode kind size s l out) kind size s (targetsIn l) out r out
+unreadable kind size s l out ne p =
+    let o = readable kind size s l out (sym (ne-eqb (length l % 8) 0 ne)) in
+    refusal kind size s (targetsIn l) out (λ z. code-some Unreadable (o ∙ z)) (p ∙ o)
 
 -- ---- how many targets are looked at
 

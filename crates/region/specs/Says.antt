@@ -1,11 +1,13 @@
 -- What the calls of the region host tell and leave. A refusal is told as number * 256 + place (`codeOf`), and 0 where nothing stands against the call.
 use Prim.Native.Nat.{ℕ, _+_, _*_, _/_, _%_, _≤_}
 use mathlib.Core.Path.{_≡_}
-use mathlib.Core.Bool.{not}
+use mathlib.Core.Bool.{false, not}
+use mathlib.Core.Logic.{_≢_}
 use mathlib.Core.List.{List, _++_}
 use mathlib.Core.Option.{Option, none, some}
 use lib.Dec.{eqb, ltb}
 use lib.ListN.{length, drop}
+use Rattle.scan.specs.Scan.{pick}
 use Rattle.octets.specs.Big.{big}
 use Rattle.answers.specs.Order.{Fault, first, refuse, readFaults}
 use Rattle.answers.specs.Told.{number, place, leaves}
@@ -14,8 +16,10 @@ use Rattle.answers.specs.declared.Refusal.the-variants.{NoRoom}
 use Rattle.paths.specs.Mesh.{Mesh, width}
 use Rattle.paths.specs.Fan.{Fan}
 use Rattle.mesh.specs.Kinds.{Kind, kindOf, meshOf}
-use Rattle.mesh.specs.Says.{pairAgainst, requestFaultsIn}
+use Rattle.mesh.specs.Says.{pairAgainst, requestFaultsIn, requestAgainst}
 use Rattle.sheet.specs.Format.{HEAD, relaysAt}
+use Rattle.sheet.specs.Says.{flawNumber, lone}
+use Rattle.sheet.specs.declared.Flaw.the-variants as flaw
 use Rattle.sheet_write.specs.Says.{bytes}
 
 -- number * 256 + place
@@ -57,20 +61,31 @@ targetsIn l = relaysAt l 0 (length l / 8)
 abbrev pub most : (m : Mesh) (k : ℕ) → ℕ
 most m k = HEAD + k * (2 + 8 * m .longest)
 
+-- the number of a refusal, or what comes after
+abbrev pub coded : Option Refusal → ℕ → ℕ
+coded none rest = rest
+coded (some why) rest = codeOf (some why)
+
+-- 37, which tells no place
+abbrev pub LONE : ℕ
+LONE = flawNumber flaw.Lone * 256
+
+-- 37 for a lone path, and then 8 where the largest sheet of so many paths would not fit
+abbrev pub sheetCode : (kind size k : ℕ) (out : List ℕ) → ℕ
+sheetCode kind size k out = pick (lone kind k) LONE (pick (ltb (length out) (most (meshOf kind size) k)) (codeOf (some NoRoom)) 0)
+
 module _ (kind size s : ℕ) where
-  -- 1 to 7, and 8 where the largest sheet of so many paths would not fit
-  abbrev pub listFaults : (targets out : List ℕ) → List Fault
-  listFaults targets out = requestFaultsIn (kindOf kind) size s targets (ltb (length out) (most (meshOf kind size) (length targets)))
+  -- 10, bytes that are no multiple of 8, and 1 to 7
+  abbrev pub planFaults : (bytes : List ℕ) → List Fault
+  planFaults bytes = readFaults (not (eqb (length bytes % 8) 0)) ++ requestFaultsIn (kindOf kind) size s (targetsIn bytes) false
 
-  -- 10 before these: bytes that are no multiple of 8
-  abbrev pub planFaults : (bytes out : List ℕ) → List Fault
-  planFaults bytes out = readFaults (not (eqb (length bytes % 8) 0)) ++ listFaults (targetsIn bytes) out
+  -- what a list of targets is told: 1 to 7, 37, 8
+  abbrev pub listCode : (targets out : List ℕ) → ℕ
+  listCode targets out = coded (requestAgainst (kindOf kind) size s targets false) (sheetCode kind size (length targets) out)
 
-  abbrev pub listAgainst : (targets out : List ℕ) → Option Refusal
-  listAgainst targets out = first (listFaults targets out)
-
-  abbrev pub planAgainst : (bytes out : List ℕ) → Option Refusal
-  planAgainst bytes out = first (planFaults bytes out)
+  -- 10 before these
+  abbrev pub planCode : (bytes out : List ℕ) → ℕ
+  planCode bytes out = coded (first (planFaults bytes)) (sheetCode kind size (length (targetsIn bytes)) out)
 
   -- the sheet of a fan stands at the front of what was there
   pub record Answered (targets out out₁ : List ℕ) : Type 0 where
@@ -81,8 +96,8 @@ module _ (kind size s : ℕ) where
     pub counted : length targets ≤ length counts
     pub held : out₁ ≡ bytes kind size s (length targets) places counts ++ drop (length (bytes kind size s (length targets) places counts)) out
 
--- what stands against it is told and then nothing is changed; else the sheet of a fan is written
-pub record Planned (o : Option Refusal) (kind size s : ℕ) (targets out : List ℕ) (r : ℕ) (out₁ : List ℕ) : Type 0 where
-  pub told : r ≡ codeOf o
-  pub answered : o ≡ none → Answered kind size s targets out out₁
-  pub refused : (why : Refusal) → o ≡ some why → out₁ ≡ out
+-- a number is told, and then nothing is changed; else the sheet of a fan is written
+pub record Planned (n kind size s : ℕ) (targets out : List ℕ) (r : ℕ) (out₁ : List ℕ) : Type 0 where
+  pub told : r ≡ n
+  pub answered : n ≡ 0 → Answered kind size s targets out out₁
+  pub refused : n ≢ 0 → out₁ ≡ out

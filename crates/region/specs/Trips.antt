@@ -1,24 +1,37 @@
 -- What the planner's call writes is read back as the fan that was planned, to the targets that were asked (`plan-reads`), and the judge accepts it.
 -- Assumes nothing.
 use Prim.Native.Nat.{ℕ, _%_}
-use mathlib.Core.Path.{_≡_, refl, sym, ap, _∙_}
-use mathlib.Core.Bool.{false, not}
+use mathlib.Core.Path.{_≡_, refl, ap, _∙_}
+use mathlib.Core.Bool.{Bool, true, false, not}
 use mathlib.Core.List.{List}
-use mathlib.Core.Option.{none}
-use lib.Dec.{eqb, ltb}
+use mathlib.Core.Option.{Option, none, some}
+use native.Mathlib.Omega.{arith}
+use lib.Dec.{eqb}
 use lib.ListN.{length, take, drop}
 use lib.Seq.{take-at}
-use Rattle.answers.specs.Order.{refuse-none}
+use Rattle.scan.specs.Scan.{pick}
+use Rattle.answers.specs.Order.{first, refuse-none}
+use Rattle.answers.specs.declared.Refusal.{Refusal}
 use Rattle.answers.specs.declared.Refusal.the-variants.{Unreadable}
-use Rattle.mesh.specs.Kinds.{kindOf, meshOf}
+use Rattle.mesh.specs.Kinds.{kindOf}
 use Rattle.mesh.specs.Says.{requestAgainst}
-use Rattle.mesh.specs.Requests.{request-passed}
 use Rattle.sheet.specs.Judging.{judged-told}
+use Rattle.sheet.specs.Says.{lone}
 use Rattle.sheet_write.specs.Says.{bytes}
 use Rattle.sheet_trips.specs.TripsRead.{ReadsBack, write-read}
-use Rattle.region.specs.Says.{most, targetsIn, listAgainst, planAgainst, Answered, Planned}
+use Rattle.region.specs.Planning.{code-some}
+use Rattle.region.specs.Says.{coded, LONE, targetsIn, planFaults, sheetCode, planCode, Answered, Planned}
 
-module _ (kind size s : ℕ) (l out out₁ : List ℕ) {r : ℕ} (p : Planned (planAgainst kind size s l out) kind size s (targetsIn l) out r out₁) (o : planAgainst kind size s l out ≡ none) where
+-- a number that is 0: there was no refusal, and what comes after is 0; it is no lone path
+coded-none : (o : Option Refusal) (n : ℕ) → coded o n ≡ 0 → (o ≡ none) × (n ≡ 0)
+coded-none none n e = (refl, e)
+coded-none (some why) n e = absurd (code-some why e)
+
+not-lone : (b : Bool) (n : ℕ) → pick b LONE n ≡ 0 → b ≡ false
+not-lone true n e = absurd (omega (arith, e))
+not-lone false n e = refl
+
+module _ (kind size s : ℕ) (l out out₁ : List ℕ) {r : ℕ} (p : Planned (planCode kind size s l out) kind size s (targetsIn l) out r out₁) (o : planCode kind size s l out ≡ 0) where
   -- the fan, and its sheet
   pub planned-fan : Answered kind size s (targetsIn l) out out₁
   planned-fan = p .answered o
@@ -26,12 +39,15 @@ module _ (kind size s : ℕ) (l out out₁ : List ℕ) {r : ℕ} (p : Planned (p
   abbrev pub planned-sheet : List ℕ
   planned-sheet = bytes kind size s (length (targetsIn l)) (planned-fan .places) (planned-fan .counts)
 
-  -- nothing stood against the request
+  -- nothing stood against the request, and its path is no lone one
+  parts : (first (planFaults kind size s l) ≡ none) × (sheetCode kind size (length (targetsIn l)) out ≡ 0)
+  parts = coded-none (first (planFaults kind size s l)) (sheetCode kind size (length (targetsIn l)) out) o
+
   asked-fine : requestAgainst (kindOf kind) size s (targetsIn l) false ≡ none
-  asked-fine =
-      let room = ltb (length out) (most (meshOf kind size) (length (targetsIn l))) in
-      let listed = refuse-none (not (eqb (length l % 8) 0)) Unreadable (listAgainst kind size s (targetsIn l) out) o .1 in
-      sym (ap (requestAgainst (kindOf kind) size s (targetsIn l)) (request-passed (kindOf kind) size s (targetsIn l) room listed .1)) ∙ listed
+  asked-fine = refuse-none (not (eqb (length l % 8) 0)) Unreadable (requestAgainst (kindOf kind) size s (targetsIn l) false) (parts .0) .1
+
+  several : lone kind (length (targetsIn l)) ≡ false
+  several = not-lone (lone kind (length (targetsIn l))) _ (parts .1)
 
   -- the first bytes are the sheet, and it reads back
   pub plan-reads : (take (length planned-sheet) out₁ ≡ planned-sheet) × ReadsBack kind size s (targetsIn l) (planned-fan .places) (planned-fan .counts) planned-sheet
@@ -39,5 +55,5 @@ module _ (kind size s : ℕ) (l out out₁ : List ℕ) {r : ℕ} (p : Planned (p
     ap (take (length planned-sheet)) (planned-fan .held) ∙ take-at planned-sheet (drop (length planned-sheet) out) (length planned-sheet) refl,
     write-read kind size s (targetsIn l) (planned-fan .places) (planned-fan .counts)
         (judged-told (kindOf kind) size s (targetsIn l) (planned-fan .places) (planned-fan .counts)
-        (record { request = asked-fine; room = planned-fan .placed; counted = planned-fan .counted; fan = planned-fan .fan })),
+        (record { request = asked-fine; room = planned-fan .placed; counted = planned-fan .counted; fan = planned-fan .fan })) several,
   )

@@ -3,17 +3,16 @@
 use Prim.Native.Nat.{ℕ}
 use mathlib.Core.Path.{_≡_, sym, _∙_}
 use mathlib.Core.List.{List}
-use mathlib.Core.Option.{Option, some}
-use Rattle.answers.specs.declared.Refusal.{Refusal}
+use mathlib.Core.Logic.{_≢_}
 use Rattle.mesh.specs.Kinds.{Kind}
 use Rattle.region.specs.Says.{Stepped, Planned}
 
 pub stepped-unique : {K : Kind} {n s t : ℕ} {out : List ℕ} {r q : ℕ} {out₁ out₂ : List ℕ} → Stepped K n s t out r out₁ → Stepped K n s t out q out₂ → (r ≡ q) × (out₁ ≡ out₂)
 stepped-unique a b = (a .told ∙ sym (b .told), a .held ∙ sym (b .held))
 
-module _ {o : Option Refusal} {kind size s : ℕ} {targets out : List ℕ} {r q : ℕ} {out₁ out₂ : List ℕ} (a : Planned o kind size s targets out r out₁) (b : Planned o kind size s targets out q out₂) where
+module _ {n kind size s : ℕ} {targets out : List ℕ} {r q : ℕ} {out₁ out₂ : List ℕ} (a : Planned n kind size s targets out r out₁) (b : Planned n kind size s targets out q out₂) where
   pub planned-unique : r ≡ q
   planned-unique = a .told ∙ sym (b .told)
 
-  pub refused-unique : (why : Refusal) → o ≡ some why → out₁ ≡ out₂
-  refused-unique why e = a .refused why e ∙ sym (b .refused why e)
+  pub refused-unique : n ≢ 0 → out₁ ≡ out₂
+  refused-unique ne = a .refused ne ∙ sym (b .refused ne)

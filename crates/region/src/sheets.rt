@@ -4,12 +4,13 @@ ghost use mathlib.Core.Bool.{true};
 ghost use Prim.Native.Nat.{_≤_};
 ghost use lib.ListN.{length};
 ghost use Rattle.mesh.specs.Kinds.{known, meshOf};
-ghost use Rattle.region.specs.Says.{most, Answered, Planned, listAgainst, planAgainst, targetsIn};
+ghost use Rattle.region.specs.Says.{most, Answered, Planned, listCode, planCode, targetsIn};
 ghost use Rattle.region.specs.Needs.{Layable, Roomy, Whole, few, Lent};
 use crate::code;
 use answers::Checked;
 use answers::Refusal;
 use mesh::Mesh;
+use sheet::Flaw;
 
 // The bytes that a sheet of k paths takes at most: of two paths in the cube of 2 dimensions 68.
 fn most_bytes(mesh: Mesh, k: usize) -> usize
@@ -46,11 +47,14 @@ fn plan_list(
     out: &mut [u8],
 ) -> u64
     requires { ⌜ Roomy (length (now places)) (length (now counts)) ⌝ }
-    ensures { λ r. ⌜ Planned (listAgainst (mesh .kind) (mesh .size) source (now (targets .entry)) (now (out .entry))) (mesh .kind) (mesh .size) source (now (targets .entry)) (now (out .entry)) r (now (out .exit)) ⌝ }
+    ensures { λ r. ⌜ Planned (listCode (mesh .kind) (mesh .size) source (now (targets .entry)) (now (out .entry))) (mesh .kind) (mesh .size) source (now (targets .entry)) (now (out .entry)) r (now (out .exit)) ⌝ }
 {
     let checked = mesh::request(mesh, source, targets);
     if let Checked::Refused(why) = checked {
         return code(why);
+    }
+    if sheet::lone(mesh.kind, targets.len()) {
+        return Flaw::Lone.number() * 256;
     }
     if out.len() < most_bytes(mesh, targets.len()) {
         return code(Refusal::NoRoom);
@@ -80,7 +84,7 @@ fn plan_in(
     out: &mut [u8],
 ) -> u64
     requires { ⌜ Lent (now bytes) (length (now list)) (length (now places)) (length (now counts)) ⌝ }
-    ensures { λ r. ⌜ Planned (planAgainst (mesh .kind) (mesh .size) source (now (bytes .entry)) (now (out .entry))) (mesh .kind) (mesh .size) source (targetsIn (now (bytes .entry))) (now (out .entry)) r (now (out .exit)) ⌝ }
+    ensures { λ r. ⌜ Planned (planCode (mesh .kind) (mesh .size) source (now (bytes .entry)) (now (out .entry))) (mesh .kind) (mesh .size) source (targetsIn (now (bytes .entry))) (now (out .entry)) r (now (out .exit)) ⌝ }
 {
     let k = looked_at(bytes.len() / 8);
     sheet_take::take_relays(bytes, 0, k, 0, list);
@@ -90,7 +94,7 @@ fn plan_in(
 // The same in room of its own: 32 paths of a cube take 1,088 places, and 6 of a two-level mesh 1,242.
 pub fn plan_bytes(mesh: Mesh, source: u64, bytes: &[u8], out: &mut [u8]) -> u64
     requires { ⌜ Whole (now bytes) ⌝ }
-    ensures { λ r. ⌜ Planned (planAgainst (mesh .kind) (mesh .size) source (now (bytes .entry)) (now (out .entry))) (mesh .kind) (mesh .size) source (targetsIn (now (bytes .entry))) (now (out .entry)) r (now (out .exit)) ⌝ }
+    ensures { λ r. ⌜ Planned (planCode (mesh .kind) (mesh .size) source (now (bytes .entry)) (now (out .entry))) (mesh .kind) (mesh .size) source (targetsIn (now (bytes .entry))) (now (out .entry)) r (now (out .exit)) ⌝ }
 {
     let mut list = [0u64; 33];
     let mut places = [0u64; mesh::MOST_PLACES];

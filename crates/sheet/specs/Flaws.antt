@@ -18,6 +18,7 @@ flawAt n i p =
     (pick (eqb n 31) flaw.Version
     (pick (eqb n 32) flaw.NoMesh
     (pick (eqb n 33) flaw.Paths
+    (pick (eqb n 37) flaw.Lone
     (pick (eqb n 8) flaw.NoRoom
     (pick (eqb n 34) (flaw.Hops i)
     (pick (eqb n 35) flaw.NotAFan
@@ -26,7 +27,7 @@ flawAt n i p =
     (pick (eqb n 5) (flaw.TargetOut p)
     (pick (eqb n 6) (flaw.TargetIsSource p)
     (pick (eqb n 7) (flaw.TargetAgain p)
-    (pick (eqb n 22) (flaw.NotLinked i p) (flaw.SeenAgain i p)))))))))))))
+    (pick (eqb n 22) (flaw.NotLinked i p) (flaw.SeenAgain i p))))))))))))))
 
 pub flaw-back : (f : Flaw) → flawAt (flawNumber f) (flawPath f) (flawPlace f) ≡ f
 unfolding flawAt
@@ -34,6 +35,7 @@ flaw-back flaw.Cut = refl
 flaw-back flaw.Version = refl
 flaw-back flaw.NoMesh = refl
 flaw-back flaw.Paths = refl
+flaw-back flaw.Lone = refl
 flaw-back flaw.NoRoom = refl
 flaw-back (flaw.Hops i) = refl
 flaw-back flaw.NotAFan = refl
@@ -50,6 +52,7 @@ flaw-some flaw.Cut = refl
 flaw-some flaw.Version = refl
 flaw-some flaw.NoMesh = refl
 flaw-some flaw.Paths = refl
+flaw-some flaw.Lone = refl
 flaw-some flaw.NoRoom = refl
 flaw-some (flaw.Hops i) = refl
 flaw-some flaw.NotAFan = refl

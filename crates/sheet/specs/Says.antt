@@ -1,10 +1,12 @@
 -- What flaws and the answers of the writer and the reader tell: the specification's number, path and place, and what comes beside them
--- (`flawNumber`, `flawPath`, `flawPlace`, `writtenTold`, `readingTold`); flaws in their order, and what a lent slice holds where one stands against it.
+-- (`flawNumber`, `flawPath`, `flawPlace`, `writtenTold`, `readingTold`); flaws in their order, what a lone path is (`lone`), and what a lent slice holds where a flaw stands against it.
 -- Assumes nothing.
 use Prim.Native.Nat.{ℕ}
-use mathlib.Core.Bool.{Bool}
+use mathlib.Core.Bool.{Bool, false}
 use mathlib.Core.Option.{Option, none, some}
+use lib.Dec.{eqb}
 use Rattle.scan.specs.Scan.{pick}
+use Rattle.mesh.specs.Kinds.{TWO}
 use Rattle.sheet.specs.declared.Flaw.{Flaw}
 use Rattle.sheet.specs.declared.Flaw.the-variants as flaw
 use Rattle.sheet.specs.declared.Written.{Written}
@@ -17,6 +19,7 @@ flawNumber flaw.Cut = 30
 flawNumber flaw.Version = 31
 flawNumber flaw.NoMesh = 32
 flawNumber flaw.Paths = 33
+flawNumber flaw.Lone = 37
 flawNumber flaw.NoRoom = 8
 flawNumber (flaw.Hops i) = 34
 flawNumber flaw.NotAFan = 35
@@ -33,6 +36,7 @@ flawPath flaw.Cut = 0
 flawPath flaw.Version = 0
 flawPath flaw.NoMesh = 0
 flawPath flaw.Paths = 0
+flawPath flaw.Lone = 0
 flawPath flaw.NoRoom = 0
 flawPath (flaw.Hops i) = i
 flawPath flaw.NotAFan = 0
@@ -49,6 +53,7 @@ flawPlace flaw.Cut = 0
 flawPlace flaw.Version = 0
 flawPlace flaw.NoMesh = 0
 flawPlace flaw.Paths = 0
+flawPlace flaw.Lone = 0
 flawPlace flaw.NoRoom = 0
 flawPlace (flaw.Hops i) = 0
 flawPlace flaw.NotAFan = 0
@@ -72,6 +77,10 @@ before (some f) rest = some f
 abbrev pub settled : {A : Type 0} → Option Flaw → A → A → A
 settled none a b = a
 settled (some f) a b = b
+
+-- 37: one path of the two-level mesh
+abbrev pub lone : (kind k : ℕ) → Bool
+lone kind k = pick (eqb kind TWO) (eqb k 1) false
 
 -- ---- the writer
 

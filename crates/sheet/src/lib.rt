@@ -13,6 +13,8 @@ pub enum Flaw {
     NoMesh,
     // 33: no path, or more than a relay has links.
     Paths,
+    // 37: a single path of a two-level mesh, which protects nothing.
+    Lone,
     // 8: a lent slice is too short.
     NoRoom,
     // 34: a path with no hops, or more than the longest has; its number, counted from 0.
@@ -57,6 +59,7 @@ impl Flaw {
             Flaw::Version => 31,
             Flaw::NoMesh => 32,
             Flaw::Paths => 33,
+            Flaw::Lone => 37,
             Flaw::NoRoom => 8,
             Flaw::Hops(_) => 34,
             Flaw::NotAFan => 35,
@@ -79,6 +82,7 @@ impl Flaw {
             Flaw::Version => 0,
             Flaw::NoMesh => 0,
             Flaw::Paths => 0,
+            Flaw::Lone => 0,
             Flaw::NoRoom => 0,
             Flaw::Hops(i) => i,
             Flaw::NotAFan => 0,
@@ -101,6 +105,7 @@ impl Flaw {
             Flaw::Version => 0,
             Flaw::NoMesh => 0,
             Flaw::Paths => 0,
+            Flaw::Lone => 0,
             Flaw::NoRoom => 0,
             Flaw::Hops(_) => 0,
             Flaw::NotAFan => 0,
@@ -197,4 +202,14 @@ impl Reading {
             Reading::Refused(_) => 0,
         }
     }
+}
+
+// Whether so many paths are a lone one: a single path of a two-level mesh. A cube may have one path.
+pub fn lone(kind: u64, k: usize) -> bool
+    ensures { λ r. ⌜ r ≡ says.lone kind k ⌝ }
+{
+    if kind == 2 {
+        return k == 1;
+    }
+    false
 }

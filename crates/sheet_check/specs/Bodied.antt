@@ -50,7 +50,7 @@ module _ {l : List ℕ} {kind size s k : ℕ} (b : Bodied l kind size s k) where
       let p = flawed-none (cut l) flaw.Cut _ (b .head) in
       let q = flawed-none (not (eqb (versionAt l) VERSION)) flaw.Version _ (p .1) in
       let r = flawed-none (not (known (kindAt l) (sizeAt l))) flaw.NoMesh _ (q .1) in
-      let t = flawed-none (badCount (meshAt l .links) (countAt l)) flaw.Paths none (r .1) in
+      let t = flawed-none (badCount (meshAt l .links) (countAt l)) flaw.Paths _ (r .1) in
       (p .0, not-false (known (kindAt l) (sizeAt l)) (r .0), t .0)
 
   pub mesh-is : meshOf kind size ≡ meshAt l

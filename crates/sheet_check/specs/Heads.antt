@@ -11,33 +11,41 @@ use borrow.Author.Tests.{lt-ltb, le-ltb, eq-eqb, ne-eqb}
 use Rattle.scan.specs.Scan.{pick}
 use Rattle.mesh.specs.Kinds.{known}
 use Rattle.sheet.specs.Format.{VERSION, HEAD, lengthAt, versionAt, kindAt, sizeAt, countAt}
-use Rattle.sheet.specs.Says.{flawed}
+use Rattle.sheet.specs.Says.{flawed, lone}
 use Rattle.sheet.specs.declared.Flaw.the-variants as flaw
 use Rattle.sheet_check.specs.Says.{cut, badCount, countAgainst, meshAt, headAgainst}
 
 -- ---- how many paths
 
-module _ (links k : ℕ) where
-  count-is : (b : Bool) → badCount links k ≡ b → flawed b flaw.Paths none ≡ countAgainst links k
-  count-is b e = ap (λ (x : Bool). flawed x flaw.Paths none) (sym e)
+module _ (kind links k : ℕ) where
+  count-is : (b : Bool) → badCount links k ≡ b → flawed b flaw.Paths (flawed (lone kind k) flaw.Lone none) ≡ countAgainst kind links k
+  count-is b e = ap (λ (x : Bool). flawed x flaw.Paths (flawed (lone kind k) flaw.Lone none)) (sym e)
 
-  pub count-none : k ≡ 0 → some flaw.Paths ≡ countAgainst links k
+  pub count-none : k ≡ 0 → some flaw.Paths ≡ countAgainst kind links k
   count-none e = count-is true (ap (λ (b : Bool). pick b true (ltb links k)) (eq-eqb k 0 e))
 
-  pub count-many : k ≢ 0 → links < k → some flaw.Paths ≡ countAgainst links k
+  pub count-many : k ≢ 0 → links < k → some flaw.Paths ≡ countAgainst kind links k
   count-many ne h = count-is true (ap (λ (b : Bool). pick b true (ltb links k)) (ne-eqb k 0 ne) ∙ lt-ltb links k h)
 
-  pub count-fine : k ≢ 0 → k ≤ links → none ≡ countAgainst links k
-  count-fine ne h = count-is false (ap (λ (b : Bool). pick b true (ltb links k)) (ne-eqb k 0 ne) ∙ le-ltb links k h)
+  -- what code has of a lone path
+  module _ (ne : k ≢ 0) (h : k ≤ links) {r : Bool} (is : r ≡ lone kind k) where
+    few-is : flawed r flaw.Lone none ≡ countAgainst kind links k
+    few-is = ap (λ (x : Bool). flawed x flaw.Lone none) is ∙ count-is false (ap (λ (b : Bool). pick b true (ltb links k)) (ne-eqb k 0 ne) ∙ le-ltb links k h)
+
+    pub count-lone : r ≡ true → some flaw.Lone ≡ countAgainst kind links k
+    count-lone t = ap (λ (x : Bool). flawed x flaw.Lone none) (sym t) ∙ few-is
+
+    pub count-fine : r ≡ false → none ≡ countAgainst kind links k
+    count-fine f = ap (λ (x : Bool). flawed x flaw.Lone none) (sym f) ∙ few-is
 
 -- ---- the head
 
 module _ (l : List ℕ) where
   head-is : {a b c : Bool} → cut l ≡ a → not (eqb (versionAt l) VERSION) ≡ b → not (known (kindAt l) (sizeAt l)) ≡ c
-      → flawed a flaw.Cut (flawed b flaw.Version (flawed c flaw.NoMesh (countAgainst (meshAt l .links) (countAt l)))) ≡ headAgainst l
+      → flawed a flaw.Cut (flawed b flaw.Version (flawed c flaw.NoMesh (countAgainst (kindAt l) (meshAt l .links) (countAt l)))) ≡ headAgainst l
   head-is {a} {b} {c} p q r =
-      ap (λ (x : Bool). flawed x flaw.Cut (flawed b flaw.Version (flawed c flaw.NoMesh (countAgainst (meshAt l .links) (countAt l))))) (sym p)
-      ∙ ap₂ (λ (x y : Bool). flawed (cut l) flaw.Cut (flawed x flaw.Version (flawed y flaw.NoMesh (countAgainst (meshAt l .links) (countAt l))))) (sym q) (sym r)
+      ap (λ (x : Bool). flawed x flaw.Cut (flawed b flaw.Version (flawed c flaw.NoMesh (countAgainst (kindAt l) (meshAt l .links) (countAt l))))) (sym p)
+      ∙ ap₂ (λ (x y : Bool). flawed (cut l) flaw.Cut (flawed x flaw.Version (flawed y flaw.NoMesh (countAgainst (kindAt l) (meshAt l .links) (countAt l))))) (sym q) (sym r)
 
   cut-is : (b : Bool) → ltb (length l) HEAD ≡ b → pick b true (not (eqb (lengthAt l) (length l - 4))) ≡ cut l
   cut-is b e = ap (λ (x : Bool). pick x true (not (eqb (lengthAt l) (length l - 4)))) (sym e)
@@ -64,5 +72,5 @@ module _ (l : List ℕ) where
         pub head-unknown : r ≡ false → some flaw.NoMesh ≡ headAgainst l
         head-unknown f = head-is uncut (ap not (eq-eqb (versionAt l) VERSION v)) (ap not (sym k ∙ f))
 
-        pub head-known : r ≡ true → countAgainst (meshAt l .links) (countAt l) ≡ headAgainst l
+        pub head-known : r ≡ true → countAgainst (kindAt l) (meshAt l .links) (countAt l) ≡ headAgainst l
         head-known f = head-is uncut (ap not (eq-eqb (versionAt l) VERSION v)) (ap not (sym k ∙ f))

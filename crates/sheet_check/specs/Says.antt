@@ -11,7 +11,7 @@ use Rattle.paths.specs.Mesh.{Mesh}
 use Rattle.mesh.specs.Kinds.{kindOf, meshOf, known}
 use Rattle.judge.specs.Says.{Ruling, ruling, numberOf, judgeTold}
 use Rattle.sheet.specs.Format.{VERSION, HEAD, lengthAt, versionAt, kindAt, sizeAt, countAt, sourceAt, pathsAt, placesOf, countsOf, targetsOf}
-use Rattle.sheet.specs.Says.{flawed, before, ReadTold, tellRead}
+use Rattle.sheet.specs.Says.{flawed, before, lone, ReadTold, tellRead}
 use Rattle.sheet.specs.declared.Flaw.{Flaw}
 use Rattle.sheet.specs.declared.Flaw.the-variants as flaw
 use Rattle.sheet_take.specs.Says.{looked}
@@ -24,8 +24,9 @@ cut l = pick (ltb (length l) HEAD) true (not (eqb (lengthAt l) (length l - 4)))
 abbrev pub badCount : (links k : ℕ) → Bool
 badCount links k = pick (eqb k 0) true (ltb links k)
 
-abbrev pub countAgainst : (links k : ℕ) → Option Flaw
-countAgainst links k = flawed (badCount links k) flaw.Paths none
+-- 33, 37
+abbrev pub countAgainst : (kind links k : ℕ) → Option Flaw
+countAgainst kind links k = flawed (badCount links k) flaw.Paths (flawed (lone kind k) flaw.Lone none)
 
 -- what the judge says of paths from s
 abbrev pub rulingOf : (kind size s : ℕ) (ps : List (List ℕ)) → Ruling
@@ -62,13 +63,13 @@ module _ (l : List ℕ) where
   abbrev pub sheetCounts : List ℕ
   sheetCounts = countsOf sheetPaths
 
-  -- 30, 31, 32, 33
+  -- 30, 31, 32, 33, 37
   abbrev pub headAgainst : Option Flaw
   headAgainst =
       flawed (cut l) flaw.Cut
       (flawed (not (eqb (versionAt l) VERSION)) flaw.Version
       (flawed (not (known (kindAt l) (sizeAt l))) flaw.NoMesh
-      (countAgainst (meshAt .links) (countAt l))))
+      (countAgainst (kindAt l) (meshAt .links) (countAt l))))
 
   -- what the judge says of the request and the paths
   abbrev pub sheetRuling : Ruling

@@ -29,7 +29,7 @@ use Rattle.sheet.specs.Format.{HEAD, VERSION, versionAt, kindAt, sizeAt, countA
 use Rattle.sheet.specs.Laid.{pathAt, within-at, laid-hops, laid-end, laid-at}
 use Rattle.sheet.specs.Lengths.{paths-length, counts-length, targets-length}
 use Rattle.sheet.specs.Lent.{Within, places-length, last-at}
-use Rattle.sheet.specs.Says.{flawNumber, flawPath, flawPlace, flawed, before, readNumber}
+use Rattle.sheet.specs.Says.{flawNumber, flawPath, flawPlace, flawed, before, lone, readNumber}
 use Rattle.sheet.specs.declared.Flaw.{Flaw}
 use Rattle.sheet.specs.declared.Flaw.the-variants as flaw
 use Rattle.sheet_take.specs.Looking.{looked-within}
@@ -181,7 +181,7 @@ module _ (l : List ℕ) where
 -- ---- every number that a check can tell
 
 abbrev pub checkNumbers : List ℕ
-checkNumbers = 0 ∷ 30 ∷ 31 ∷ 32 ∷ 33 ∷ 34 ∷ 36 ∷ 2 ∷ 5 ∷ 6 ∷ 7 ∷ 22 ∷ 24 ∷ []
+checkNumbers = 0 ∷ 30 ∷ 31 ∷ 32 ∷ 33 ∷ 37 ∷ 34 ∷ 36 ∷ 2 ∷ 5 ∷ 6 ∷ 7 ∷ 22 ∷ 24 ∷ []
 
 module _ (l : List ℕ) where
   -- one of them is told where so much stands against a sheet
@@ -190,14 +190,15 @@ module _ (l : List ℕ) where
 
   pub listed-head : Listed (headAgainst l)
   unfolding has among any seek
-  listed-head = go (cut l) (not (eqb (versionAt l) VERSION)) (not (known (kindAt l) (sizeAt l))) (badCount (meshAt l .links) (countAt l))
+  listed-head = go (cut l) (not (eqb (versionAt l) VERSION)) (not (known (kindAt l) (sizeAt l))) (badCount (meshAt l .links) (countAt l)) (lone (kindAt l) (countAt l))
     where
-      go : (a b c d : Bool) → Listed (flawed a flaw.Cut (flawed b flaw.Version (flawed c flaw.NoMesh (flawed d flaw.Paths none))))
-      go true b c d = refl
-      go false true c d = refl
-      go false false true d = refl
-      go false false false true = refl
-      go false false false false = refl
+      go : (a b c d e : Bool) → Listed (flawed a flaw.Cut (flawed b flaw.Version (flawed c flaw.NoMesh (flawed d flaw.Paths (flawed e flaw.Lone none)))))
+      go true b c d e = refl
+      go false true c d e = refl
+      go false false true d e = refl
+      go false false false true e = refl
+      go false false false false true = refl
+      go false false false false false = refl
 
   listed-looked : (longest from i k : ℕ) → Listed (looked longest l from i k)
   unfolding looked has among any seek

@@ -11,13 +11,16 @@ use sheet::Reading;
 // The mesh, the source and how many paths, where so many can be asked for.
 fn counted(mesh: Mesh, source: u64, k: usize) -> Reading
     requires { ⌜ known (mesh .kind) (mesh .size) ≡ true ⌝ }
-    ensures { λ r. ⌜ readingTold r ≡ tellRead (countAgainst (meshOf (mesh .kind) (mesh .size) .links) k) (mesh .kind) (mesh .size) source k ⌝ }
+    ensures { λ r. ⌜ readingTold r ≡ tellRead (countAgainst (mesh .kind) (meshOf (mesh .kind) (mesh .size) .links) k) (mesh .kind) (mesh .size) source k ⌝ }
 {
     if k == 0 {
         return Reading::Refused(Flaw::Paths);
     }
     if mesh::links_in(mesh) < k as u64 {
         return Reading::Refused(Flaw::Paths);
+    }
+    if sheet::lone(mesh.kind, k) {
+        return Reading::Refused(Flaw::Lone);
     }
     Reading::Fan(mesh, source, k)
 }

@@ -18,7 +18,7 @@ use Rattle.judge.specs.Alike.{enough}
 use Rattle.judge.specs.Says.{Ruling, ruling, numberOf, judgeTold}
 use Rattle.sheet.specs.Flaws.{flawed-none, before-none, no-flaw, none-flawed, none-before}
 use Rattle.sheet.specs.Format.{VERSION, HEAD, lengthAt, versionAt, kindAt, sizeAt, countAt, sourceAt}
-use Rattle.sheet.specs.Says.{flawed}
+use Rattle.sheet.specs.Says.{flawed, lone}
 use Rattle.sheet.specs.declared.Flaw.{Flaw}
 use Rattle.sheet.specs.declared.Flaw.the-variants as flaw
 use Rattle.sheet_take.specs.Says.{looked}
@@ -26,13 +26,14 @@ use Rattle.sheet_check.specs.Says.{cut, badCount, meshAt, sheetTargets, sheetPl
 use Rattle.sheet_read.specs.Says.{lacking, readAgainst}
 
 pub record Accepted (l : List ℕ) (places counts targets : ℕ) : Type 0 where
-  -- 30, 31, 32, 33
+  -- 30, 31, 32, 33, 37
   pub long : HEAD ≤ length l
   pub counted : lengthAt l ≡ length l - 4
   pub version : versionAt l ≡ VERSION
   pub known-mesh : known (kindAt l) (sizeAt l) ≡ true
   pub some-path : countAt l ≢ 0
   pub few : countAt l ≤ meshAt l .links
+  pub not-lone : lone (kindAt l) (countAt l) ≡ false
   -- 8
   pub room : countAt l * width (meshAt l) ≤ places
   pub room-counts : countAt l ≤ counts
@@ -64,7 +65,8 @@ module _ (l : List ℕ) (places counts targets : ℕ) where
       let cut-not = flawed-none (cut l) flaw.Cut _ (h .0) in
       let version-not = flawed-none (not (eqb (versionAt l) VERSION)) flaw.Version _ (cut-not .1) in
       let mesh-not = flawed-none (not (known (kindAt l) (sizeAt l))) flaw.NoMesh _ (version-not .1) in
-      let paths-not = flawed-none (badCount (m .links) k) flaw.Paths none (mesh-not .1) in
+      let paths-not = flawed-none (badCount (m .links) k) flaw.Paths _ (mesh-not .1) in
+      let lone-not = flawed-none (lone (kindAt l) k) flaw.Lone none (paths-not .1) in
       let room-not = flawed-none (lacking l places counts targets) flaw.NoRoom _ (h .1) in
       let look-not = before-none (looked (m .longest) l HEAD 0 k) _ (room-not .1) in
       let c = neither-wanting (ltb (length l) HEAD) (not (eqb (lengthAt l) (length l - 4))) refl (cut-not .0) in
@@ -78,6 +80,7 @@ module _ (l : List ℕ) (places counts targets : ℕ) where
         known-mesh = not-false (known (kindAt l) (sizeAt l)) (mesh-not .0);
         some-path = eqb-false k 0 (p .0);
         few = ltb-false (m .links) k (p .1);
+        not-lone = lone-not .0;
         room = held .0;
         room-counts = held .1;
         room-targets = ltb-false targets k (r .1);
@@ -93,22 +96,27 @@ module _ (l : List ℕ) (places counts targets : ℕ) where
       (none-flawed flaw.Cut (neither (le-ltb (length l) HEAD (a .long)) (ap not (eq-eqb (lengthAt l) (length l - 4) (a .counted))))
       (none-flawed flaw.Version (ap not (eq-eqb (versionAt l) VERSION (a .version)))
       (none-flawed flaw.NoMesh (ap not (a .known-mesh))
-      (none-flawed flaw.Paths (neither (ne-eqb k 0 (a .some-path)) (le-ltb (m .links) k (a .few))) refl))))
+      (none-flawed flaw.Paths (neither (ne-eqb k 0 (a .some-path)) (le-ltb (m .links) k (a .few)))
+      (none-flawed flaw.Lone (a .not-lone) refl)))))
       (none-flawed flaw.NoRoom (neither (enough m k places counts (a .room) (a .room-counts)) (le-ltb targets k (a .room-targets)))
       (none-before (a .looks)
       (none-ruled (sheetRuling l) (a .is-fan))))
 
--- what stands against writing so many bytes into room for so many, where the judge tells n
-abbrev pub writeFlaw : (n bytes room : ℕ) → Option Flaw
-writeFlaw n bytes room = pick (eqb n 0) (flawed (ltb room bytes) flaw.NoRoom none) (pick (eqb n 8) (some flaw.NoRoom) (some flaw.NotAFan))
+-- what stands against writing so many bytes into room for so many, where the judge tells n, and the path is a lone one or not
+abbrev pub writeFlaw : (alone : Bool) (n bytes room : ℕ) → Option Flaw
+writeFlaw alone n bytes room =
+    flawed alone flaw.Lone (pick (eqb n 0) (flawed (ltb room bytes) flaw.NoRoom none) (pick (eqb n 8) (some flaw.NoRoom) (some flaw.NotAFan)))
 
-pub write-granted : (n bytes room : ℕ) → writeFlaw n bytes room ≡ none → (n ≡ 0) × (bytes ≤ room)
-write-granted n bytes room e = go (eqb n 0) (eqb n 8) refl e
+pub write-granted : (alone : Bool) (n bytes room : ℕ) → writeFlaw alone n bytes room ≡ none → (alone ≡ false) × (n ≡ 0) × (bytes ≤ room)
+write-granted alone n bytes room e =
+    let f = flawed-none alone flaw.Lone _ e in
+    let g = go (eqb n 0) (eqb n 8) refl (f .1) in
+    (f .0, g .0, g .1)
   where
     go : (a b : Bool) → eqb n 0 ≡ a → pick a (flawed (ltb room bytes) flaw.NoRoom none) (pick b (some flaw.NoRoom) (some flaw.NotAFan)) ≡ none → (n ≡ 0) × (bytes ≤ room)
     go true b f g = (eqb-true n 0 f, ltb-false room bytes (flawed-none (ltb room bytes) flaw.NoRoom none g .0))
     go false true f g = no-flaw g
     go false false f g = no-flaw g
 
-pub write-grants : (n bytes room : ℕ) → n ≡ 0 → bytes ≤ room → writeFlaw n bytes room ≡ none
-write-grants n bytes room e h = simp (eq-eqb n 0 e, le-ltb room bytes h)
+pub write-grants : (alone : Bool) (n bytes room : ℕ) → alone ≡ false → n ≡ 0 → bytes ≤ room → writeFlaw alone n bytes room ≡ none
+write-grants alone n bytes room f e h = simp (f, eq-eqb n 0 e, le-ltb room bytes h)

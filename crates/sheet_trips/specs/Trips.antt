@@ -17,7 +17,7 @@ use Rattle.sheet.specs.Flaws.{flaw-some}
 use Rattle.sheet.specs.Format.{HEAD, kindAt, sizeAt, countAt, sourceAt}
 use Rattle.sheet.specs.Judging.{judged}
 use Rattle.sheet.specs.Lengths.{paths-length, targets-length}
-use Rattle.sheet.specs.Says.{settled, flawNumber, wrote, tellWritten, reads, tellRead}
+use Rattle.sheet.specs.Says.{settled, lone, flawNumber, wrote, tellWritten, reads, tellRead}
 use Rattle.sheet.specs.declared.Flaw.{Flaw}
 use Rattle.sheet_write.specs.Says.{sheet, ruled, writeAgainst, Wrote}
 use Rattle.sheet_write.specs.Unique.{wrote-unique}
@@ -55,14 +55,16 @@ module _ (kind size s : ℕ) (targets places counts out : List ℕ) where
   abbrev w : ℕ
   w = width (meshOf kind size)
 
-  -- the bytes that the writer counts are the sheet, and the judge found a fan
+  -- the bytes that the writer counts are the sheet, the judge found a fan, and the path is no lone one
   pub written-is : (n : ℕ) (out₁ : List ℕ) → Wrote kind size s targets places counts out (written.Bytes n) out₁
       → (take n out₁ ≡ sheet kind size s targets places counts out) × (numberOf (judgeTold (kindOf kind) size s targets places counts false) ≡ 0)
+      × (lone kind k ≡ false)
   written-is n out₁ v =
       let l = sheet kind size s targets places counts out in
       let fine = wrote-fine (writeAgainst kind size s targets places counts out) n (length l) (v .told) in
-      let granted = write-granted (ruled kind size s targets places counts out) (length l) (length out) (fine .0) in (
+      let granted = write-granted (lone kind k) (ruled kind size s targets places counts out) (length l) (length out) (fine .0) in (
         ap (take n) (v .held ∙ ap (λ (o : Option Flaw). settled o (l ++ drop (length l) out) out) (fine .0)) ∙ take-at l (drop (length l) out) n (sym (fine .1)),
+        granted .1,
         granted .0,
       )
 
@@ -96,7 +98,7 @@ module _ (kind size s : ℕ) (targets places counts out : List ℕ) where
       → (r : Reading) (places₁ counts₁ targets₁ : List ℕ) → Read (take n out₁) more others ends r places₁ counts₁ targets₁ → SameFan more others ends r places₁ counts₁ targets₁
   written-reads n out₁ v more others ends a b c r places₁ counts₁ targets₁ u =
       let is = written-is n out₁ v in
-      fan-read (is .1) (sheet kind size s targets places counts out) (write-read kind size s targets places counts (is .1)) more others ends a b c r places₁ counts₁ targets₁
+      fan-read (is .1) (sheet kind size s targets places counts out) (write-read kind size s targets places counts (is .1) (is .2)) more others ends a b c r places₁ counts₁ targets₁
       (subst (λ (l : List ℕ). Read l more others ends r places₁ counts₁ targets₁) (is .0) u)
 
 -- ---- read, then written

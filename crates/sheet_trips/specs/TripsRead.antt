@@ -1,4 +1,5 @@
--- Main theorem `write-read`: a fan that is written reads back the same, request, places and counts. Assumes nothing.
+-- Main theorem `write-read`: a fan that is written, and is no lone path of a two-level mesh, reads back the same, request, places and counts. Assumes
+-- nothing.
 use Prim.Native.Nat.{ℕ, _+_, _*_, _^_, _≤_, _<_}
 use mathlib.Core.Path.{_≡_, sym, ap, ap₂, _∙_, subst}
 use mathlib.Core.Bool.{false}
@@ -18,6 +19,7 @@ use Rattle.sheet.specs.Judging.{Judged, judged, judged-told, judged-fine, judge
 use Rattle.sheet.specs.Lengths.{pathsFrom-length, bytesOf}
 use Rattle.sheet.specs.Lent.{within-of, places-of, counts-of, targets-of}
 use Rattle.sheet.specs.Most.{bytes-most}
+use Rattle.sheet.specs.Says.{lone}
 use Rattle.sheet_take.specs.Says.{looked}
 use Rattle.sheet_check.specs.Says.{meshAt, sheetPaths, sheetTargets, sheetPlaces, sheetCounts}
 use Rattle.sheet_read.specs.Says.{readAgainst}
@@ -42,7 +44,8 @@ pub record ReadsBack (kind size s : ℕ) (targets places counts l : List ℕ) : 
   -- nothing stands against it where there is room
   pub no-flaw : (p c t : ℕ) → length targets * width (meshOf kind size) ≤ p → length targets ≤ c → length targets ≤ t → readAgainst l p c t ≡ none
 
-module _ (kind size s : ℕ) (targets places counts : List ℕ) (e : numberOf (judgeTold (kindOf kind) size s targets places counts false) ≡ 0) where
+module _ (kind size s : ℕ) (targets places counts : List ℕ) (e : numberOf (judgeTold (kindOf kind) size s targets places counts false) ≡ 0)
+    (several : lone kind (length targets) ≡ false) where
   abbrev m : Mesh
   m = meshOf kind size
 
@@ -132,6 +135,7 @@ module _ (kind size s : ℕ) (targets places counts : List ℕ) (e : numberOf (j
       known-mesh = ap₂ known (h .kind-is) (h .size-is) ∙ fine .known;
       some-path = λ z. omega (arith, z, same-count, fine .sound .some-target);
       few = subst (λ (n : Mesh). countAt l ≤ n .links) (sym same-mesh) (omega (arith, same-count, fine .sound .few));
+      not-lone = ap₂ lone (h .kind-is) same-count ∙ several;
       room = subst (λ (n : Mesh). countAt l * width n ≤ p) (sym same-mesh) (subst (λ (c : ℕ). c * w ≤ p) (sym same-count) a);
       room-counts = omega (arith, same-count);
       room-targets = omega (arith, same-count);

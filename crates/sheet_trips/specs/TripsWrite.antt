@@ -12,8 +12,9 @@ use Rattle.mesh.specs.Kinds.{kindOf}
 use Rattle.judge.specs.Says.{numberOf, judgeTold}
 use Rattle.sheet.specs.Format.{HEAD, sheetOf, kindAt, sizeAt, countAt, sourceAt, pathsOf}
 use Rattle.sheet.specs.Judging.{judged, judged-told, judged-same}
-use Rattle.sheet.specs.Lengths.{counts-length, targets-length}
+use Rattle.sheet.specs.Lengths.{paths-length, counts-length, targets-length}
 use Rattle.sheet.specs.Lent.{Within, places-length, paths-lent}
+use Rattle.sheet.specs.Says.{lone}
 use Rattle.sheet_write.specs.Says.{sheet, writeAgainst}
 use Rattle.sheet_take.specs.Looking.{looked-within}
 use Rattle.sheet_check.specs.Says.{meshAt, sheetPaths, sheetTargets, sheetPlaces, sheetCounts}
@@ -43,6 +44,9 @@ module _ (l : List ℕ) (b : Bytes l) (p c t : ℕ) (e : readAgainst l p c t ≡
 
   how-many : length (sheetPaths l) ≡ k
   how-many = sym (targets-length (sourceAt l) (sheetPaths l))
+
+  several : lone (kindAt l) k ≡ false
+  several = ap (lone (kindAt l)) (sym how-many ∙ paths-length l HEAD (countAt l)) ∙ is-accepted .not-lone
 
   places-long : length (sheetPlaces l) ≡ k * w
   places-long = places-length (sourceAt l) (meshAt l .longest) (sheetPaths l) within ∙ ap (λ (n : ℕ). n * w) how-many
@@ -80,6 +84,6 @@ module _ (l : List ℕ) (b : Bytes l) (p c t : ℕ) (e : readAgainst l p c t ≡
     read-write out = record {
       bytes-are = same-bytes;
       no-flaw = λ h.
-          write-grants (numberOf (judgeTold (kindOf (kindAt l)) (sizeAt l) (sourceAt l) (sheetTargets l) places counts false))
-          (length (sheetOf (kindAt l) (sizeAt l) (sourceAt l) (pathsOf w places counts k))) (length out) is-fan (omega (arith, ap length same-bytes));
+          write-grants (lone (kindAt l) k) (numberOf (judgeTold (kindOf (kindAt l)) (sizeAt l) (sourceAt l) (sheetTargets l) places counts false))
+          (length (sheetOf (kindAt l) (sizeAt l) (sourceAt l) (pathsOf w places counts k))) (length out) several is-fan (omega (arith, ap length same-bytes));
     }

@@ -12,7 +12,7 @@ use Rattle.paths.specs.Mesh.{width}
 use Rattle.mesh.specs.Kinds.{kindOf, meshOf}
 use Rattle.judge.specs.Says.{numberOf, judgeTold}
 use Rattle.sheet.specs.Format.{sheetOf, pathsOf}
-use Rattle.sheet.specs.Says.{flawed, settled, tellWritten, writtenTold}
+use Rattle.sheet.specs.Says.{flawed, settled, lone, tellWritten, writtenTold}
 use Rattle.sheet.specs.declared.Flaw.{Flaw}
 use Rattle.sheet.specs.declared.Flaw.the-variants as flaw
 use Rattle.sheet.specs.declared.Written.{Written}
@@ -39,10 +39,15 @@ module _ (kind size s : ℕ) (targets places counts out : List ℕ) where
   abbrev pub ruled : ℕ
   ruled = numberOf (judgeTold (kindOf kind) size s targets places counts false)
 
-  abbrev pub writeAgainst : Option Flaw
-  writeAgainst =
+  -- what the judge says, and then room
+  abbrev pub fanAgainst : Option Flaw
+  fanAgainst =
       pick (eqb ruled 0) (flawed (ltb (length out) (length sheet)) flaw.NoRoom none)
       (pick (eqb ruled 8) (some flaw.NoRoom) (some flaw.NotAFan))
+
+  -- 37 before everything else
+  abbrev pub writeAgainst : Option Flaw
+  writeAgainst = flawed (lone kind (length targets)) flaw.Lone fanAgainst
 
   pub record Wrote (r : Written) (out₁ : List ℕ) : Type 0 where
     pub told : writtenTold r ≡ tellWritten writeAgainst (length sheet)

@@ -1,8 +1,8 @@
--- Why the writer keeps its promise: a fan can be written (`judged-sheeted`, `fan-sheeted`); what is told by what the judge says (`wrote-fan`, `wrote-short`, `wrote-not`).
--- Assumes nothing.
+-- Why the writer keeps its promise: a fan can be written (`judged-sheeted`, `fan-sheeted`); what is told of a lone path (`wrote-lone`), and else
+-- by what the judge says (`wrote-fan`, `wrote-short`, `wrote-not`). Assumes nothing.
 use Prim.Native.Nat.{ℕ}
 use mathlib.Core.Path.{_≡_, sym, ap, _∙_}
-use mathlib.Core.Bool.{Bool}
+use mathlib.Core.Bool.{Bool, true, false}
 use mathlib.Core.List.{List, _++_}
 use mathlib.Core.Logic.{_≢_}
 use mathlib.Core.Option.{Option, some}
@@ -14,11 +14,11 @@ use Rattle.scan.specs.Scan.{pick}
 use Rattle.mesh.specs.Kinds.{kindOf}
 use Rattle.mesh.specs.Limits.{known-links, known-width}
 use Rattle.sheet.specs.Judging.{Judged, judged, judged-fine}
-use Rattle.sheet.specs.Says.{settled, tellWritten}
+use Rattle.sheet.specs.Says.{flawed, settled, lone, tellWritten}
 use Rattle.sheet.specs.declared.Flaw.{Flaw}
 use Rattle.sheet.specs.declared.Flaw.the-variants as flaw
 use Rattle.sheet_write.specs.Needs.{Sheeted}
-use Rattle.sheet_write.specs.Says.{sheet, ruled, writeAgainst, Wrote, Put, putAgainst}
+use Rattle.sheet_write.specs.Says.{sheet, ruled, fanAgainst, writeAgainst, Wrote, Put, putAgainst}
 use Rattle.sheet.specs.declared.Written.{Written}
 use Rattle.sheet.specs.declared.Written.the-variants as written
 
@@ -46,35 +46,44 @@ module _ (kind size s : ℕ) (targets places counts out : List ℕ) where
   abbrev says : ℕ
   says = ruled kind size s targets places counts out
 
-  -- ---- where the judge says 0
-  module _ (z : says ≡ 0) where
-    pub fan-sheeted : Sheeted kind size k (length places) counts
-    fan-sheeted = judged-sheeted kind size s targets places counts (judged (kindOf kind) size s targets places counts z)
-
-    against-put : putAgainst kind size s k places counts out ≡ writeAgainst kind size s targets places counts out
-    against-put =
-        ap (λ (b : Bool). pick b (putAgainst kind size s k places counts out) (pick (eqb says 8) (some flaw.NoRoom) (some flaw.NotAFan))) (sym (eq-eqb says 0 z))
-
-    pub wrote-fan : {r : Written} {out₁ : List ℕ} → Put kind size s k places counts out r out₁ → Wrote kind size s targets places counts out r out₁
-    wrote-fan p = record {
-      told = p .told ∙ ap (λ (o : Option Flaw). tellWritten o (length (sheet kind size s targets places counts out))) against-put;
-      held = p .held ∙ ap (λ (o : Option Flaw). settled o (sheet kind size s targets places counts out ++ drop (length (sheet kind size s targets places counts out)) out) out) against-put;
-    }
-
-  -- ---- where it says another number
-
   refused : {f : Flaw} → some f ≡ writeAgainst kind size s targets places counts out → Wrote kind size s targets places counts out (written.Refused f) out
   refused e = record {
     told = ap (λ (o : Option Flaw). tellWritten o (length (sheet kind size s targets places counts out))) e;
     held = ap (λ (o : Option Flaw). settled o (sheet kind size s targets places counts out ++ drop (length (sheet kind size s targets places counts out)) out) out) e;
   }
 
-  not-fan : says ≢ 0 → pick (eqb says 8) (some flaw.NoRoom) (some flaw.NotAFan) ≡ writeAgainst kind size s targets places counts out
-  not-fan ne =
-      ap (λ (b : Bool). pick b (putAgainst kind size s k places counts out) (pick (eqb says 8) (some flaw.NoRoom) (some flaw.NotAFan))) (sym (ne-eqb says 0 ne))
+  -- ---- where the judge says 0
+  pub fan-sheeted : says ≡ 0 → Sheeted kind size k (length places) counts
+  fan-sheeted z = judged-sheeted kind size s targets places counts (judged (kindOf kind) size s targets places counts z)
 
-  pub wrote-short : says ≢ 0 → says ≡ 8 → Wrote kind size s targets places counts out (written.Refused flaw.NoRoom) out
-  wrote-short ne e = refused (ap (λ (b : Bool). pick b (some flaw.NoRoom) (some flaw.NotAFan)) (sym (eq-eqb says 8 e)) ∙ not-fan ne)
+  -- ---- what code has of a lone path
+  module _ {b : Bool} (is : b ≡ lone kind k) where
+    pub wrote-lone : b ≡ true → Wrote kind size s targets places counts out (written.Refused flaw.Lone) out
+    wrote-lone t = refused (ap (λ (x : Bool). flawed x flaw.Lone (fanAgainst kind size s targets places counts out)) (sym t ∙ is))
 
-  pub wrote-not : says ≢ 0 → says ≢ 8 → Wrote kind size s targets places counts out (written.Refused flaw.NotAFan) out
-  wrote-not ne nt = refused (ap (λ (b : Bool). pick b (some flaw.NoRoom) (some flaw.NotAFan)) (sym (ne-eqb says 8 nt)) ∙ not-fan ne)
+    -- several paths, or a cube's
+    module _ (f : b ≡ false) where
+      several : fanAgainst kind size s targets places counts out ≡ writeAgainst kind size s targets places counts out
+      several = ap (λ (x : Bool). flawed x flaw.Lone (fanAgainst kind size s targets places counts out)) (sym f ∙ is)
+
+      against-put : says ≡ 0 → putAgainst kind size s k places counts out ≡ writeAgainst kind size s targets places counts out
+      against-put z =
+          ap (λ (x : Bool). pick x (putAgainst kind size s k places counts out) (pick (eqb says 8) (some flaw.NoRoom) (some flaw.NotAFan))) (sym (eq-eqb says 0 z)) ∙ several
+
+      pub wrote-fan : {r : Written} {out₁ : List ℕ} → says ≡ 0 → Put kind size s k places counts out r out₁ → Wrote kind size s targets places counts out r out₁
+      wrote-fan z p = record {
+        told = p .told ∙ ap (λ (o : Option Flaw). tellWritten o (length (sheet kind size s targets places counts out))) (against-put z);
+        held = p .held ∙ ap (λ (o : Option Flaw). settled o (sheet kind size s targets places counts out ++ drop (length (sheet kind size s targets places counts out)) out) out) (against-put z);
+      }
+
+      -- ---- where the judge says another number
+
+      not-fan : says ≢ 0 → pick (eqb says 8) (some flaw.NoRoom) (some flaw.NotAFan) ≡ writeAgainst kind size s targets places counts out
+      not-fan ne =
+          ap (λ (x : Bool). pick x (putAgainst kind size s k places counts out) (pick (eqb says 8) (some flaw.NoRoom) (some flaw.NotAFan))) (sym (ne-eqb says 0 ne)) ∙ several
+
+      pub wrote-short : says ≢ 0 → says ≡ 8 → Wrote kind size s targets places counts out (written.Refused flaw.NoRoom) out
+      wrote-short ne e = refused (ap (λ (x : Bool). pick x (some flaw.NoRoom) (some flaw.NotAFan)) (sym (eq-eqb says 8 e)) ∙ not-fan ne)
+
+      pub wrote-not : says ≢ 0 → says ≢ 8 → Wrote kind size s targets places counts out (written.Refused flaw.NotAFan) out
+      wrote-not ne nt = refused (ap (λ (x : Bool). pick x (some flaw.NoRoom) (some flaw.NotAFan)) (sym (ne-eqb says 8 nt)) ∙ not-fan ne)

@@ -47,7 +47,8 @@ pub fn put_sheet(
 
 // Writes the sheet of a fan from the source to the targets at the front of `out`, and gives its length. Path i begins at place i * W of the places, where W is
 // `mesh.places()`, and its hops stand in the counts at i. In the cube of 1 dimension, from 0 to 1, it is 00 00 00 16 01 01 01 01, eight 00, 00 01, seven 00,
-// 01: 26 bytes. Refuses with 35 what is no request or no fan, with 8 where places, counts or, for a fan, `out` are too short, and then writes nothing.
+// 01: 26 bytes. Refuses with 37 a single target in a two-level mesh, before everything else; with 35 what is no request or no fan, with 8 where places, counts
+// or, for a fan, `out` are too short; and then writes nothing.
 pub fn write(
     mesh: Mesh,
     source: u64,
@@ -58,6 +59,9 @@ pub fn write(
 ) -> Written
     ensures { λ r. ⌜ says.Wrote (mesh .kind) (mesh .size) source (now (targets .entry)) (now (places .entry)) (now (counts .entry)) (now (out .entry)) r (now (out .exit)) ⌝ }
 {
+    if sheet::lone(mesh.kind, targets.len()) {
+        return Written::Refused(Flaw::Lone);
+    }
     let found = judge::judge(mesh, source, targets, places, counts).number();
     if found == 0 {
         return put_sheet(mesh, source, targets.len(), places, counts, out);

@@ -1,5 +1,8 @@
--- `region::sheets::plan_list` meets its contract: what stands against the request, then room, then the fan. Assumes nothing.
-use Rattle.region.specs.Planning.{request-place, list-refused, list-known, list-short, list-layable, list-done}
+-- `region::sheets::plan_list` meets its contract: what stands against the request, a lone path, room, and then the fan. Assumes nothing.
+use Prim.Native.Nat.{ℕ, _*_}
+use mathlib.Core.Path.{ap}
+use native.Mathlib.Omega.{arith}
+use Rattle.region.specs.Planning.{request-place, list-refused, list-known, list-lone, list-short, list-layable, list-done}
 use borrow.Author.Needs.{needs}
 use Rattle.region.proofs.sheets.plan_list.Statement.{statement}
 use Rattle.region.proofs.sheets.plan_list.Tie as tie
@@ -9,6 +12,8 @@ use Rattle.region.proofs.code.Reads as code-reads
 use Rattle.region.proofs.sheets.lay.Reads as lay-reads
 use Rattle.region.proofs.sheets.most_bytes.Reads as most-bytes-reads
 use Rattle.mesh.proofs.request.Reads as request-reads
+use Rattle.sheet.proofs.Flaw.number.Reads as number-reads
+use Rattle.sheet.proofs.lone.Reads as lone-reads
 
 request-requires : tie.Need-request-requires
 request-requires c κs = search needs
@@ -25,17 +30,29 @@ returns c = let a = c .before .before .before .before .before .before .before .b
 enum-told : tie.Need-enum-told
 enum-told c = search needs
 
+lone-requires : tie.Need-lone-requires
+lone-requires c κs = search needs
+
+number-requires : tie.Need-number-requires
+number-requires c κs = search needs
+
+mul-result : tie.Need-mul-result
+mul-result c = omega (arith, c .number .ensures)
+
+returns-2 : tie.Need-returns-2
+returns-2 c = let t = c .before .before .before in let a = t .before .before .before .before .before .before .before .args in list-lone (a .mesh .kind) (a .mesh .size) (a .source) (a .targets .now) (a .out .now) (t .before .before .request .ensures) (t .enum-told .given .1) (c .before .before .lone .ensures) (c .before .if1 .taken) (ap (λ (n : ℕ). n * 256) (c .number .ensures))
+
 most-bytes-requires : tie.Need-most-bytes-requires
-most-bytes-requires c κs = let a = c .before .before .before .before .before .before .before .args in list-known (a .mesh .kind) (a .mesh .size) (a .source) (a .targets .now) (a .out .now) (c .before .before .request .ensures) (c .enum-told .given .1)
+most-bytes-requires c κs = let t = c .before .before in let a = t .before .before .before .before .before .before .before .args in list-known (a .mesh .kind) (a .mesh .size) (a .source) (a .targets .now) (a .out .now) (t .before .before .request .ensures) (t .enum-told .given .1)
 
 code-requires-2 : tie.Need-code-requires-2
 code-requires-2 c κs = search needs
 
-returns-2 : tie.Need-returns-2
-returns-2 c = let a = c .before .before .before .before .before .before .before .before .before .before .args in list-short (a .mesh .kind) (a .mesh .size) (a .source) (a .targets .now) (a .out .now) (c .before .before .before .before .before .request .ensures) (c .before .before .before .enum-told .given .1) (c .before .before .most-bytes .ensures) (c .before .if1 .taken) (c .code2 .ensures)
+returns-3 : tie.Need-returns-3
+returns-3 c = let t = c .before .before .before .before .before in let a = t .before .before .before .before .before .before .before .args in list-short (a .mesh .kind) (a .mesh .size) (a .source) (a .targets .now) (a .out .now) (t .before .before .request .ensures) (t .enum-told .given .1) (c .before .before .before .before .lone .ensures) (c .before .before .before .if1 .left) (c .before .before .most-bytes .ensures) (c .before .if2 .taken) (c .code2 .ensures)
 
 lay-requires : tie.Need-lay-requires
-lay-requires c κs = let s = c .before .before .before .before .before .before .before .before .before .before .before .before in let a = s .args in list-layable (a .mesh .kind) (a .mesh .size) (a .source) (a .targets .now) (a .out .now) (c .before .before .before .before .before .before .before .request .ensures) (c .before .before .before .before .before .enum-told .given .1) (c .before .before .before .before .most-bytes .ensures) (c .before .before .before .if1 .left) (s .pre)
+lay-requires c κs = let m = c .before .before .before .before in let t = m .before .before .before in let s = t .before .before .before .before .before .before .before in let a = s .args in list-layable (a .mesh .kind) (a .mesh .size) (a .source) (a .targets .now) (a .out .now) (t .before .before .request .ensures) (t .enum-told .given .1) (m .before .before .lone .ensures) (m .before .if1 .left) (m .most-bytes .ensures) (c .before .before .before .if2 .left) (s .pre)
 
 same-length : tie.Need-same-length
 same-length c = search needs
@@ -46,8 +63,8 @@ same-length-2 c = search needs
 same-length-3 : tie.Need-same-length-3
 same-length-3 c = search needs
 
-returns-3 : tie.Need-returns-3
-returns-3 c = let a = c .before .before .before .before .before .before .before .before .before .before .before .before .before .before .before .before .before .before .before .args in list-done (a .mesh .kind) (a .mesh .size) (a .source) (a .targets .now) (a .out .now) (c .before .before .before .before .before .before .before .before .before .before .before .before .before .before .request .ensures) (c .before .before .before .before .before .before .before .before .before .before .before .before .enum-told .given .1) (c .before .before .before .before .before .before .before .before .before .before .before .most-bytes .ensures) (c .before .before .before .before .before .before .before .before .before .before .if1 .left) (c .before .before .before .before .before .before .lay .ensures)
+returns-4 : tie.Need-returns-4
+returns-4 c = let l = c .before .before .before .before .before .before in let m = l .before .before .before .before .before in let t = m .before .before .before in let a = t .before .before .before .before .before .before .before .args in list-done (a .mesh .kind) (a .mesh .size) (a .source) (a .targets .now) (a .out .now) (t .before .before .request .ensures) (t .enum-told .given .1) (m .before .before .lone .ensures) (m .before .if1 .left) (m .most-bytes .ensures) (l .before .before .before .before .if2 .left) (l .lay .ensures)
 
 pub plan-list-spec : {M : Type 1} → statement M
 plan-list-spec =
@@ -58,11 +75,15 @@ plan-list-spec =
     code-requires
     returns
     enum-told
+    lone-requires
+    number-requires
+    mul-result
+    returns-2
     most-bytes-requires
     code-requires-2
-    returns-2
+    returns-3
     lay-requires
     same-length
     same-length-2
     same-length-3
-    returns-3)
+    returns-4)

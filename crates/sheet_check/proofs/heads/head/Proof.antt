@@ -64,7 +64,7 @@ returns-4 : tie.Need-returns-4
 returns-4 c =
     let l = c .before .before .before .before .before .before .before .before .before .before .before .before .before .args .bytes .now in
     c .counted .ensures
-    ∙ ap (λ (x : ℕ). tellRead (countAgainst (meshAt l .links) (countAt l)) (kindAt l) (sizeAt l) x (countAt l)) (c .before .before .number2 .ensures)
+    ∙ ap (λ (x : ℕ). tellRead (countAgainst (kindAt l) (meshAt l .links) (countAt l)) (kindAt l) (sizeAt l) x (countAt l)) (c .before .before .number2 .ensures)
     ∙ ap (sheetTold l) (head-known l (c .before .before .before .before .before .before .before .before .before .before .before .if1 .left) (c .before .before .before .before .before .before .before .before .before .before .number .ensures) (c .before .before .before .before .before .before .before .before .before .if2 .left) (c .before .before .before .before .before .before .before .if3 .left) (c .before .before .before .before .known .ensures) (c .before .before .before .if4 .taken))
 
 returns-5 : tie.Need-returns-5
