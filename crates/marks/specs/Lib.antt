@@ -1,0 +1,3 @@
+-- Marks of relays, and their laws.
+pub mod Marks
+pub mod Laws
