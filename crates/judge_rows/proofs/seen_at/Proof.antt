@@ -3,10 +3,12 @@ use Prim.Native.Nat.{ℕ, _+_, _-_}
 use mathlib.Core.Path.{refl, sym, _∙_}
 use mathlib.Core.List.{List}
 use native.Mathlib.Omega.{arith}
+use Rattle.marks.specs.Noted.{noted-more, noted-row}
 use Rattle.scan.specs.Laws.{Passed, passed-start, passed-more, passed-at, passed-all, nowhere-at}
+use Rattle.paths.specs.Fan.{relay, hops}
 use Rattle.paths.specs.Finding.{seen}
 use Rattle.judge_rows.specs.Rules.{rulesOf}
-use Rattle.judge_rows.specs.Looked.{Looked, looked-more, looked-path}
+use Rattle.judge_rows.specs.Looked.{Looked}
 use Rattle.judge_rows.specs.declared.Rules.{Rules}
 use borrow.Author.Needs.{needs}
 use Rattle.judge_rows.proofs.seen_at.Statement.{statement}
@@ -36,7 +38,7 @@ seen-marked-requires c κs =
     (record { ruled = r .ruled; held = r .held; counted = r .counted; row = record { room = r .row .room; short = omega (arith, r .row .short) } }, (l .loop .inv .looked, c .before .relay .ensures))
 
 same-length : tie.Need-same-length Inv-loop μ-loop
-same-length c = let l = c .before .before .before .before .before in l .loop .inv .looked .size ∙ sym (l .before .before .before .before .pre .1 .0 .size)
+same-length c = let l = c .before .before .before .before .before in l .loop .inv .looked .long ∙ sym (l .before .before .before .before .pre .1 .0 .long)
 
 returns : tie.Need-returns Inv-loop μ-loop
 returns c =
@@ -61,18 +63,18 @@ loop-again c =
     let a = l .before .before .before .before .args in
     record {
       passed = passed-more (l .loop .inv .passed) (omega arith) (sym (k .before .seen-marked .ensures) ∙ k .if1 .left);
-      looked = looked-more (a .rules .width) (a .places .now) (a .counts .now) (l .loop .inv .looked) (k .before .before .before .relay .ensures) (q .put .ensures);
+      looked = noted-more (relay (a .rules .width) (a .places .now)) (λ j. hops (a .counts .now) j + 1) (l .loop .inv .looked) (k .before .before .before .relay .ensures) (q .put .ensures);
     }
 
 same-length-2 : tie.Need-same-length-2 Inv-loop μ-loop
-same-length-2 c = let l = c .before in l .loop .inv .looked .size ∙ sym (l .before .before .before .before .pre .1 .0 .size)
+same-length-2 c = let l = c .before in l .loop .inv .looked .long ∙ sym (l .before .before .before .before .pre .1 .0 .long)
 
 returns-2 : tie.Need-returns-2 Inv-loop μ-loop
 returns-2 c =
     let v = c .before .loop .inv in
     let s = c .before .before .before .before .before in
     let a = s .args in
-    (sym (passed-all (v .passed) (omega arith)), λ e. looked-path (a .rules .width) (a .places .now) (a .counts .now) (v .looked) (omega (arith, s .pre .1 .1)))
+    (sym (passed-all (v .passed) (omega arith)), λ e. noted-row (relay (a .rules .width) (a .places .now)) (λ j. hops (a .counts .now) j + 1) (v .looked) (omega (arith, s .pre .1 .1)))
 
 pub seen-at-spec : {M : Type 1} → statement M
 seen-at-spec =

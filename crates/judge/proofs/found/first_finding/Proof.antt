@@ -1,13 +1,15 @@
 -- `judge::found::first_finding` meets its contract: the invariant is that nothing was found on the paths passed, and that their relays are marked. Assumes nothing.
-use Prim.Native.Nat.{ℕ, _-_}
+use Prim.Native.Nat.{ℕ, _+_, _-_}
 use mathlib.Core.Path.{ap}
 use mathlib.Core.List.{List}
 use mathlib.Core.Option.{none}
 use native.Mathlib.Omega.{arith}
 use lib.ListN.{length, length-replicate}
 use Rattle.marks.specs.Marks.{words}
+use Rattle.marks.specs.Noted.{noted-none}
+use Rattle.paths.specs.Fan.{relay, hops}
 use Rattle.judge_rows.specs.Rules.{rulesOf}
-use Rattle.judge_rows.specs.Looked.{Looked, looked-none}
+use Rattle.judge_rows.specs.Looked.{Looked}
 use Rattle.judge_rows.specs.declared.Rules.{Rules}
 use Rattle.judge.specs.Says.{rule, searchOf}
 use Rattle.judge.specs.Search.{Searched, search-starts, search-room, search-goes-on, search-finds, search-ends}
@@ -31,7 +33,7 @@ loop-holds c =
     let a = s .args in
     record {
       searched = search-starts (rulesOf (a .rules)) (a .source) (a .targets .now) (a .places .now) (a .counts .now) (s .pre .ruled .wide) (s .pre .room) (s .pre .counted);
-      looked = looked-none (a .rules .width) (a .places .now) (a .counts .now) (length-replicate {A = ℕ} words 0);
+      looked = noted-none (relay (a .rules .width) (a .places .now)) (λ j. hops (a .counts .now) j + 1) (length-replicate {A = ℕ} words 0);
     }
 
 mul-look : tie.Need-mul-look Inv-loop μ-loop
