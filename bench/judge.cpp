@@ -1,5 +1,5 @@
-// Nanoseconds a verdict on a fan with all links, and the survivors of one: the library's calls beside the same in C++ by a table of the relays met, in one run, over the
-// same fans, and the best of many bursts; what a place of the plan costs; and the stack that is taken.
+// Nanoseconds a verdict on a fan with all links, and the survivors of one: the library's calls beside the same in C++, by a table of the relays met and by a bit for each
+// relay, in one run, over the same fans, and the best of many bursts; what a place of the plan costs; and the stack that is taken.
 #include "gustparsley.h"
 #include "measure.hpp"
 
@@ -10,7 +10,7 @@
 
 namespace {
 
-using measure::Fan, measure::kCounts, measure::kPlaces, measure::Request;
+using measure::Fan, measure::kCounts, measure::Request;
 
 constexpr uint64_t kNone = ~uint64_t{0};
 
@@ -28,22 +28,33 @@ bool linked(uint64_t kind, uint64_t size, uint64_t u, uint64_t v) {
   return x <= slots || x == uint64_t{1} << (size + (u & slots));
 }
 
-// A relay and the path it stands on: half of the places at most are taken, and a relay stands at the first free one from its own place on.
+// The relays met: half of the places at most are taken, and a relay stands at the first free one from its own place on.
 struct Table {
   uint64_t relay[4096];
-  uint32_t path[4096];
   int bits = 4;
   explicit Table(uint64_t relays) {
     while ((uint64_t{1} << bits) < 2 * relays) ++bits;
     std::memset(relay, 0xff, size_t{8} << bits);
   }
-  // Where the relay stands, or where it is to stand.
-  size_t at(uint64_t x) const {
+  // Whether the relay is new; it is met from then on.
+  bool add(uint64_t x) {
     const size_t mask = (size_t{1} << bits) - 1;
     size_t i = x * 0x9E3779B97F4A7C15u >> (64 - bits);
-    while (relay[i] != kNone && relay[i] != x) i = (i + 1) & mask;
-    return i;
+    while (relay[i] != kNone) {
+      if (relay[i] == x) return false;
+      i = (i + 1) & mask;
+    }
+    relay[i] = x;
+    return true;
   }
+};
+
+// A bit for each relay, by a hash of its number.
+struct Bits {
+  uint64_t word[256] = {};
+  static size_t at(uint64_t x) { return x * 0x9E3779B97F4A7C15u >> 50; }
+  void add(uint64_t x) { word[at(x) / 64] |= uint64_t{1} << at(x) % 64; }
+  bool has(uint64_t x) const { return word[at(x) / 64] >> at(x) % 64 & 1; }
 };
 
 // How many relays the paths have, with room for a count that is too long.
@@ -53,19 +64,18 @@ uint64_t total(uint64_t w, size_t k, const uint64_t *counts) {
   return n;
 }
 
-// 0 for a fan, else the number of what is wrong; the relays met go into the table. It asks nothing of the request.
-uint64_t judge(uint64_t kind, uint64_t size, uint64_t source, const uint64_t *targets, size_t k, const uint64_t *places, const uint64_t *counts, Table &met) {
+// 0 for a fan, else the number of what is wrong. It asks nothing of the request.
+__attribute__((noinline)) uint64_t judge_table(uint64_t kind, uint64_t size, uint64_t source, const uint64_t *targets, size_t k, const uint64_t *places,
+                                               const uint64_t *counts) {
   const uint64_t w = width(kind, size), all = relays(kind, size);
+  Table met(total(w, k, counts));
   for (size_t i = 0; i < k; ++i) {
     const uint64_t *row = places + i * w, h = counts[i];
     if (h >= w) return 20;
     if (row[0] != source) return 21;
     for (uint64_t p = 1; p <= h; ++p) {
       if (row[p] >= all || !linked(kind, size, row[p - 1], row[p])) return 22;
-      const size_t at = met.at(row[p]);
-      if (row[p] == source || met.relay[at] != kNone) return 24;
-      met.relay[at] = row[p];
-      met.path[at] = static_cast<uint32_t>(i);
+      if (row[p] == source || !met.add(row[p])) return 24;
     }
     if (row[h] != targets[i]) return 23;
     for (uint64_t p = h + 1; p < w; ++p)
@@ -74,24 +84,22 @@ uint64_t judge(uint64_t kind, uint64_t size, uint64_t source, const uint64_t *ta
   return 0;
 }
 
-__attribute__((noinline)) uint64_t judge_table(uint64_t kind, uint64_t size, uint64_t source, const uint64_t *targets, size_t k, const uint64_t *places,
-                                               const uint64_t *counts) {
-  Table met(total(width(kind, size), k, counts));
-  return judge(kind, size, source, targets, k, places, counts, met);
-}
-
-// Judged, and then one pass over the relays that have stopped.
-__attribute__((noinline)) uint64_t survive_table(uint64_t kind, uint64_t size, uint64_t source, const uint64_t *targets, size_t k, const uint64_t *places,
-                                                 const uint64_t *counts, const uint64_t *stopped, size_t n, uint64_t *ends, uint64_t *hops, uint64_t *wholes) {
-  Table met(total(width(kind, size), k, counts));
-  if (judge(kind, size, source, targets, k, places, counts, met)) std::abort();
-  for (size_t i = 0; i < k; ++i) ends[i] = targets[i], hops[i] = counts[i], wholes[i] = 1;
-  for (size_t j = 0; j < n; ++j) {
-    const size_t at = met.at(stopped[j]);
-    if (met.relay[at] != kNone) wholes[met.path[at]] = 0;
-    if (stopped[j] == source)
-      for (size_t i = 0; i < k; ++i) wholes[i] = 0;
+// Judged; then a bit for each relay of the fan, and one pass over the relays that have stopped: one that has its bit is looked for on the paths that are whole.
+__attribute__((noinline)) uint64_t survive_bits(uint64_t kind, uint64_t size, uint64_t source, const uint64_t *targets, size_t k, const uint64_t *places,
+                                                const uint64_t *counts, const uint64_t *stopped, size_t n, uint64_t *ends, uint64_t *hops, uint64_t *wholes) {
+  if (judge_table(kind, size, source, targets, k, places, counts)) std::abort();
+  const uint64_t w = width(kind, size);
+  Bits fan;
+  for (size_t i = 0; i < k; ++i) {
+    ends[i] = targets[i], hops[i] = counts[i], wholes[i] = 1;
+    for (uint64_t p = 0; p <= counts[i]; ++p) fan.add(places[i * w + p]);
   }
+  for (size_t j = 0; j < n; ++j)
+    if (fan.has(stopped[j]))
+      for (size_t i = 0; i < k; ++i) {
+        const uint64_t *row = places + i * w, *end = row + counts[i] + 1;
+        if (wholes[i] && std::find(row, end, stopped[j]) != end) wholes[i] = 0;
+      }
   uint64_t whole = 0;
   for (size_t i = 0; i < k; ++i) whole += wholes[i];
   return whole;
@@ -101,20 +109,22 @@ __attribute__((noinline)) uint64_t survive_table(uint64_t kind, uint64_t size, u
 
 struct Case {
   Request q;
-  Fan fan;
+  std::vector<uint64_t> places, counts;
 };
 
+// About a megabyte of fans.
 std::vector<Case> cases(uint64_t kind, uint64_t size, std::mt19937_64 &random) {
   const GustFacts facts = gust_facts(kind, size);
-  std::vector<Case> all(64);
+  const size_t room = facts.links * width(kind, size);
+  std::vector<Case> all(std::max<size_t>(64, (1 << 20) / (8 * room)));
   for (Case &c : all) {
-    c.q = {size, random() % facts.relays, {}};
+    c = {{size, random() % facts.relays, {}}, std::vector<uint64_t>(room), std::vector<uint64_t>(facts.links)};
     std::set<uint64_t> seen{c.q.source};
     while (c.q.targets.size() < facts.links) {
       const uint64_t t = random() % facts.relays;
       if (seen.insert(t).second) c.q.targets.push_back(t);
     }
-    if (gust_fan(kind, size, c.q.source, c.q.targets.data(), c.q.targets.size(), c.fan.places, kPlaces, c.fan.counts, kCounts).number) std::abort();
+    if (gust_fan(kind, size, c.q.source, c.q.targets.data(), c.q.targets.size(), c.places.data(), room, c.counts.data(), facts.links).number) std::abort();
   }
   return all;
 }
@@ -127,7 +137,7 @@ double burst(const std::vector<Case> &all, Do once) {
 }
 
 uint64_t ours(uint64_t kind, const Case &c) {
-  return gust_judge(kind, c.q.size, c.q.source, c.q.targets.data(), c.q.targets.size(), c.fan.places, kPlaces, c.fan.counts, kCounts).number;
+  return gust_judge(kind, c.q.size, c.q.source, c.q.targets.data(), c.q.targets.size(), c.places.data(), c.places.size(), c.counts.data(), c.counts.size()).number;
 }
 
 template <uint64_t kind>
@@ -138,18 +148,20 @@ uint64_t stacked(uint64_t size, uint64_t source, const uint64_t *targets, size_t
 // Nanoseconds a place.
 template <uint64_t kind>
 double row(const char *name, uint64_t size, std::mt19937_64 &random, double &worst) {
-  std::vector<Case> all = cases(kind, size, random);
+  const std::vector<Case> all = cases(kind, size, random);
   double a = 1e99, b = 1e99;
-  for (int i = 0; i < 200; ++i) {
+  for (int i = 0; i < 100; ++i) {
     a = std::min(a, burst(all, [](const Case &c) {
                    if (ours(kind, c)) std::abort();
                  }));
     b = std::min(b, burst(all, [](const Case &c) {
-                   if (judge_table(kind, c.q.size, c.q.source, c.q.targets.data(), c.q.targets.size(), c.fan.places, c.fan.counts)) std::abort();
+                   if (judge_table(kind, c.q.size, c.q.source, c.q.targets.data(), c.q.targets.size(), c.places.data(), c.counts.data())) std::abort();
                  }));
   }
-  size_t stack = 0;
-  for (Case &c : all) stack = std::max(stack, measure::stack(stacked<kind>, {c.q}, c.fan));
+  Fan fan;
+  std::copy(all[0].places.begin(), all[0].places.end(), fan.places);
+  std::copy(all[0].counts.begin(), all[0].counts.end(), fan.counts);
+  const size_t stack = measure::stack(stacked<kind>, {all[0].q}, fan);
   const double places = static_cast<double>(all[0].q.targets.size() * width(kind, size));
   worst = std::max(worst, a / b);
   std::printf("judge, %s %llu: Rattle %7.1f ns a fan, C++ %7.1f ns, ratio %.2f; %.2f ns a place; stack %zu bytes\n", name, (unsigned long long)size, a, b, a / b,
@@ -157,20 +169,20 @@ double row(const char *name, uint64_t size, std::mt19937_64 &random, double &wor
   return a / places;
 }
 
-// Survivors of order 3 with so many stopped, of numbers below `below`.
+// Survivors of order 3 with these stopped.
 double survivors(const char *name, const std::vector<Case> &all, const std::vector<uint64_t> &stopped) {
   uint64_t ends[2][kCounts], hops[2][kCounts], wholes[2][kCounts], cuts = 0;
   double a = 1e99, b = 1e99;
-  for (int i = 0; i < 100; ++i) {
+  for (int i = 0; i < 30; ++i) {
     a = std::min(a, burst(all, [&](const Case &c) {
                    const size_t k = c.q.targets.size();
-                   if (gust_survivors(2, c.q.size, c.q.source, c.q.targets.data(), k, c.fan.places, kPlaces, c.fan.counts, kCounts, stopped.data(),
+                   if (gust_survivors(2, c.q.size, c.q.source, c.q.targets.data(), k, c.places.data(), c.places.size(), c.counts.data(), c.counts.size(), stopped.data(),
                                       stopped.size(), &cuts, 0, ends[0], kCounts, hops[0], kCounts, wholes[0], kCounts)
                            .number)
                      std::abort();
                  }));
     b = std::min(b, burst(all, [&](const Case &c) {
-                   survive_table(2, c.q.size, c.q.source, c.q.targets.data(), c.q.targets.size(), c.fan.places, c.fan.counts, stopped.data(), stopped.size(),
+                   survive_bits(2, c.q.size, c.q.source, c.q.targets.data(), c.q.targets.size(), c.places.data(), c.counts.data(), stopped.data(), stopped.size(),
                                  ends[1], hops[1], wholes[1]);
                  }));
     for (size_t j = 0; j < all[0].q.targets.size(); ++j)

@@ -1,13 +1,13 @@
 -- The laws of the marks of what has failed: kept as the list is gone through (`Passing`), and all of it at the end (`struck-all`); what the definitions of failures say is listed
 -- (`has-listed`, `cut-listed`). Assumes nothing.
-use Prim.Native.Nat.{ℕ, suc, _+_, _-_, _%_, _≤_, _<_}
+use Prim.Native.Nat.{ℕ, suc, _+_, _-_, _≤_, _<_}
 use mathlib.Core.Path.{_≡_, refl, sym, ap, ap₂, _∙_, subst}
 use mathlib.Core.Bool.{Bool, true, false, _||_}
 use mathlib.Core.Logic.{_⊎_, inl, inr, ⊎-elim}
 use mathlib.Core.List.{List, [], _∷_}
-use native.Mathlib.Nat.{add-comm}
 use native.Mathlib.Omega.{arith}
 use native.Mathlib.Decide.{ℕ-discrete}
+use lib.Bits.{or-comm}
 use lib.ListN.{length, getD}
 use Rattle.marks.specs.Marks.{words, marked, put}
 use Rattle.marks.specs.Laws.{put-length, put-own, put-keeps}
@@ -23,7 +23,7 @@ use Rattle.struck.specs.Struck.{key, thing, things, Listed, Kept, Hits, 
 
 turned : (x y : ℕ) → key x y ≡ key y x
 unfolding key
-turned x y = add-comm (x % 9223372036854775808) (y % 9223372036854775808)
+turned x y = or-comm x y
 
 key-two : (a b u v : ℕ) → Two a b u v → key a b ≡ key u v
 key-two a b u v (inl z) = ap₂ key (z .0) (z .1)

@@ -1,9 +1,10 @@
 -- What failures strike of a set of paths: what a path has (`thing`: with d = 0 its relays, with d = 1 its links, each from a relay to the one d places on), what is listed as
 -- failed (`Listed`), and marks of all that the paths have and that is listed (`Struck`). Definitions; assumes nothing.
-use Prim.Native.Nat.{ℕ, _+_, _-_, _%_, _≤_, _<_}
+use Prim.Native.Nat.{ℕ, _+_, _-_, _≤_, _<_}
 use mathlib.Core.Path.{_≡_}
 use mathlib.Core.Bool.{true}
 use mathlib.Core.List.{List}
+use lib.Bits.{bitOr}
 use lib.ListN.{length, getD}
 use Rattle.marks.specs.Marks.{words, marked}
 use Rattle.paths.specs.Fan.{relay, hops}
@@ -11,7 +12,7 @@ use Rattle.paths.specs.Cuts.{Two}
 
 -- one number for two relays, the same in either order
 unfoldable pub key : (u v : ℕ) → ℕ
-key u v = u % 9223372036854775808 + v % 9223372036854775808
+key u v = bitOr u v
 
 -- what path i has at place p, and how much it has
 abbrev pub thing : (w : ℕ) (places : List ℕ) (d i p : ℕ) → ℕ

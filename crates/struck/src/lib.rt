@@ -9,11 +9,11 @@ ghost use Rattle.judge_rows.specs.Needs.{Held};
 ghost use Rattle.struck.specs.Struck as specs;
 ghost use Rattle.struck.specs.Struck.{thing, things, Kept, Hits, Struck};
 
-// One number for two relays, the same in either order.
+// One number for two relays, the same in either order: of a relay and itself its own.
 pub fn key(u: u64, v: u64) -> u64
     ensures { λ r. ⌜ r ≡ specs.key u v ⌝ }
 {
-    u % 9223372036854775808 + v % 9223372036854775808
+    u | v
 }
 
 // Marks what path i has.
