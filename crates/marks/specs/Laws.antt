@@ -1,8 +1,8 @@
 -- The laws of marks: a relay that is put has its mark (`put-own`), and every other keeps its own (`put-keeps`). So a relay without its mark was not put.
 -- Assumes nothing.
 use Prim.Native.Nat.{ℕ, _/_, _%_, _^_, _≤_, _<_, min, max}
-use mathlib.Core.Path.{_≡_, sym, ap, ap₂, _∙_}
-use mathlib.Core.Bool.{true}
+use mathlib.Core.Path.{_≡_, refl, sym, ap, ap₂, _∙_}
+use mathlib.Core.Bool.{Bool, true, false, not}
 use mathlib.Core.List.{List}
 use native.Mathlib.Nat.{mod-lt, zero-lt-suc, lt-of-le-of-lt}
 use native.Mathlib.Omega.{arith}
@@ -12,10 +12,10 @@ use lib.Dec.{eqb}
 use lib.Pow.{pow-lt}
 use lib.ListN.{length, getD, set, length-set}
 use lib.Seq.{getD-set-same, getD-set-other}
-use borrow.Author.Tests.{eq-eqb, eqb-true}
+use borrow.Author.Tests.{eq-eqb, ne-eqb, eqb-true}
 use Rattle.bits.specs.Bit.{bit}
-use Rattle.bits.specs.Laws.{bit-and, bit-or, same-bits}
-use Rattle.marks.specs.Marks.{words, scatter, wordAt, maskAt, marked, put}
+use Rattle.bits.specs.Laws.{bit-lt, bit-off, bit-and, bit-or, bit-pow-same, same-bits}
+use Rattle.marks.specs.Marks.{words, scatter, wordAt, firstAt, maskAt, marked, put}
 
 -- ---- where a mark is
 
@@ -24,21 +24,38 @@ unfolding wordAt
 word-lt s = mod-lt (s / 16777216) (zero-lt-suc 255)
 
 mask-lt : (s : ℕ) → maskAt s < 2 ^ 64
-unfolding maskAt
+unfolding firstAt maskAt
 mask-lt s = or-lt 64 (2 ^ (s / 4294967296 % 64)) (2 ^ (s / 262144 % 64)) (one (s / 4294967296)) (one (s / 262144))
   where
     one : (i : ℕ) → 2 ^ (i % 64) < 2 ^ 64
     one i = pow-lt (mod-lt i (zero-lt-suc 63))
 
--- what code has of a relay's word and mark
-module _ (marks : List ℕ) (x : ℕ) {s i m : ℕ} (e : s ≡ scatter x) (f : i ≡ wordAt s) (g : m ≡ maskAt s) where
-  pub marked-told : eqb (bitAnd (getD marks i 0) m) m ≡ marked marks x
-  unfolding marked
-  marked-told = ap₂ (λ (i m : ℕ). eqb (bitAnd (getD marks i 0) m) m) (f ∙ ap wordAt e) (g ∙ ap maskAt e)
+first-in : (s : ℕ) {j : ℕ} → j ≡ firstAt s → bit j (maskAt s) ≡ 1
+unfolding maskAt
+first-in s {j} e =
+    let two = 2 ^ (s / 262144 % 64) in
+    ap (λ (i : ℕ). bit i (bitOr (2 ^ firstAt s) two)) e ∙ omega (arith, bit-or (firstAt s) (2 ^ firstAt s) two, bit-pow-same (firstAt s), bit-lt (firstAt s) two)
 
-  pub put-told : set marks i (bitOr (getD marks i 0) m) ≡ put marks x
-  unfolding put
-  put-told = ap₂ (λ (i m : ℕ). set marks i (bitOr (getD marks i 0) m)) (f ∙ ap wordAt e) (g ∙ ap maskAt e)
+-- what code has of a relay's word and mark
+module _ (marks : List ℕ) (x : ℕ) {s i : ℕ} (e : s ≡ scatter x) (f : i ≡ wordAt s) where
+  module _ {m : ℕ} (g : m ≡ maskAt s) where
+    pub marked-told : eqb (bitAnd (getD marks i 0) m) m ≡ marked marks x
+    unfolding marked
+    marked-told = ap₂ (λ (i m : ℕ). eqb (bitAnd (getD marks i 0) m) m) (f ∙ ap wordAt e) (g ∙ ap maskAt e)
+
+    pub put-told : set marks i (bitOr (getD marks i 0) m) ≡ put marks x
+    unfolding put
+    put-told = ap₂ (λ (i m : ℕ). set marks i (bitOr (getD marks i 0) m)) (f ∙ ap wordAt e) (g ∙ ap maskAt e)
+
+  -- a word without the first bit has not the mark
+  pub first-told : {j : ℕ} {b : Bool} → j ≡ firstAt s → b ≡ eqb (bit j (getD marks i 0)) 1 → not b ≡ true → false ≡ marked marks x
+  first-told {j} {b} g h t =
+      let w = getD marks i 0 in
+      sym (ne-eqb (bitAnd w (maskAt s)) (maskAt s) (λ y. omega (arith, bit-and j w (maskAt s), ap (bit j) y, first-in s g, bit-off j w (sym h ∙ off b t)))) ∙ marked-told refl
+    where
+      off : (b : Bool) → not b ≡ true → b ≡ false
+      off true e = sym e
+      off false e = refl
 
 -- ---- a mark in a word
 

@@ -14,12 +14,15 @@ words = 256
 unfoldable pub scatter : ℕ → ℕ
 scatter x = x % 4294967296 * 1640531527 + x / 4294967296 * 625341585
 
--- the word of a scattered number, and the mark in it
+-- the word of a scattered number, and the mark in it, with its first bit
 unfoldable pub wordAt : ℕ → ℕ
 wordAt s = s / 16777216 % 256
 
+unfoldable pub firstAt : ℕ → ℕ
+firstAt s = s / 4294967296 % 64
+
 unfoldable pub maskAt : ℕ → ℕ
-maskAt s = bitOr (2 ^ (s / 4294967296 % 64)) (2 ^ (s / 262144 % 64))
+maskAt s = bitOr (2 ^ firstAt s) (2 ^ (s / 262144 % 64))
 
 -- whether relay x has its mark
 unfoldable pub marked : List ℕ → ℕ → Bool

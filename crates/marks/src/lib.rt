@@ -22,21 +22,32 @@ fn word(s: u64) -> usize
     (s / 16777216 % 256) as usize
 }
 
+// The bit of the mark that is asked for first.
+fn first(s: u64) -> u32
+    ensures { λ r. ⌜ (r ≡ specs.firstAt s) × (r < 64) ⌝ }
+{
+    (s / 4294967296 % 64) as u32
+}
+
 // The mark in that word.
 fn mask(s: u64) -> u64
     ensures { λ r. ⌜ r ≡ specs.maskAt s ⌝ }
 {
-    bits::power((s / 4294967296 % 64) as u32) | bits::power((s / 262144 % 64) as u32)
+    bits::power(first(s)) | bits::power((s / 262144 % 64) as u32)
 }
 
-// Whether the relay has its mark.
+// Whether the relay has its mark. Most have not even its first bit.
 pub fn marked(marks: &[u64], x: u64) -> bool
     requires { ⌜ length (now marks) ≡ specs.words ⌝ }
     ensures { λ r. ⌜ r ≡ specs.marked (now (marks .entry)) x ⌝ }
 {
     let s = scatter(x);
+    let w = marks[word(s)];
+    if !bits::bit(w, first(s)) {
+        return false;
+    }
     let m = mask(s);
-    marks[word(s)] & m == m
+    w & m == m
 }
 
 // Gives the relay its mark.

@@ -1,5 +1,5 @@
--- `marks::marked` meets its contract: the relay's word has the relay's mark. Assumes nothing.
-use Rattle.marks.specs.Laws.{marked-told}
+-- `marks::marked` meets its contract: the relay's word has the relay's mark, of which one bit is asked for first. Assumes nothing.
+use Rattle.marks.specs.Laws.{marked-told, first-told}
 use borrow.Author.Needs.{needs}
 use Rattle.marks.proofs.marked.Statement.{statement}
 use Rattle.marks.proofs.marked.Tie as tie
@@ -7,32 +7,47 @@ use Rattle.marks.proofs.marked.Tie as tie
 scatter-requires : tie.Need-scatter-requires
 scatter-requires c κs = search needs
 
-mask-requires : tie.Need-mask-requires
-mask-requires c κs = search needs
-
 word-requires : tie.Need-word-requires
 word-requires c κs = search needs
 
-mul-result : tie.Need-mul-result
-mul-result c = search needs
+mul-w : tie.Need-mul-w
+mul-w c = search needs
 
-shared-slice-read-result : tie.Need-shared-slice-read-result
-shared-slice-read-result c = search needs
+shared-slice-read-w : tie.Need-shared-slice-read-w
+shared-slice-read-w c = search needs
+
+first-requires : tie.Need-first-requires
+first-requires c κs = search needs
+
+bit-requires : tie.Need-bit-requires
+bit-requires c κs = search needs
 
 returns : tie.Need-returns
 returns c =
-    let q = c .before in
-    let k = q .before in
-    let a = k .before .before .before .args in
-    marked-told (a .marks .now) (a .x) (k .before .scatter .ensures) (q .word .ensures .0) (k .mask .ensures)
+    let b = c .before in
+    let q = b .before .before .before in
+    let a = q .before .before .before .args in
+    first-told (a .marks .now) (a .x) (q .before .scatter .ensures) (q .word .ensures .0) (b .before .first .ensures .0) (b .bit .ensures) (c .if1 .taken)
+
+mask-requires : tie.Need-mask-requires
+mask-requires c κs = search needs
+
+returns-2 : tie.Need-returns-2
+returns-2 c =
+    let q = c .before .before .before .before .before in
+    let a = q .before .before .before .args in
+    marked-told (a .marks .now) (a .x) (q .before .scatter .ensures) (q .word .ensures .0) (c .mask .ensures)
 
 pub marked-spec : {M : Type 1} → statement M
 marked-spec =
     tie.close
     (tie.spec
     scatter-requires
-    mask-requires
     word-requires
-    mul-result
-    shared-slice-read-result
-    returns)
+    mul-w
+    shared-slice-read-w
+    first-requires
+    bit-requires
+    returns
+    mask-requires
+    returns-2)

@@ -1,26 +1,27 @@
 -- `marks::mask` meets its contract: two bits of a word. Assumes nothing.
-use mathlib.Core.Path.{ap₂}
+use Prim.Native.Nat.{ℕ, _^_}
+use mathlib.Core.Path.{ap, ap₂, _∙_}
 use lib.Bits.{bitOr}
 use Rattle.marks.specs.Marks.{maskAt}
 use borrow.Author.Needs.{needs}
 use Rattle.marks.proofs.mask.Statement.{statement}
 use Rattle.marks.proofs.mask.Tie as tie
 
-cast-power : tie.Need-cast-power
-cast-power c = search needs
+first-requires : tie.Need-first-requires
+first-requires c κs = search needs
 
 power-requires : tie.Need-power-requires
 power-requires c κs = search needs
 
-cast-power-2 : tie.Need-cast-power-2
-cast-power-2 c = search needs
+cast-power : tie.Need-cast-power
+cast-power c = search needs
 
 power-requires-2 : tie.Need-power-requires-2
 power-requires-2 c κs = search needs
 
 returns : tie.Need-returns
 unfolding maskAt
-returns c = ap₂ bitOr (c .before .power .ensures) (c .power2 .ensures)
+returns c = let p = c .before in ap₂ bitOr (p .power .ensures ∙ ap (λ (i : ℕ). 2 ^ i) (p .before .first .ensures .0)) (c .power2 .ensures)
 
 pub mask-spec : {M : Type 1} → statement M
-mask-spec = tie.close (tie.spec cast-power power-requires cast-power-2 power-requires-2 returns)
+mask-spec = tie.close (tie.spec first-requires power-requires cast-power power-requires-2 returns)
