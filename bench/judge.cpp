@@ -1,4 +1,4 @@
-// Nanoseconds a verdict on a fan with all links, and the survivors of one: the library's calls beside the same in C++, by a table of the relays met and by a bit for each
+// Nanoseconds a verdict on a fan with all links or a bundle, and the survivors of a fan: the library's calls beside the same in C++, by a table of the relays met and by a bit for each
 // relay, in one run, over the same fans, and the best of many bursts; what a place of the plan costs; and the stack that is taken.
 #include "gustparsley.h"
 #include "measure.hpp"
@@ -64,20 +64,25 @@ uint64_t total(uint64_t w, size_t k, const uint64_t *counts) {
   return n;
 }
 
-// 0 for a fan, else the number of what is wrong. It asks nothing of the request.
+// 0 for a fan, or a bundle to the first target, else the number of what is wrong. It asks nothing of the request.
+template <bool bundle>
 __attribute__((noinline)) uint64_t judge_table(uint64_t kind, uint64_t size, uint64_t source, const uint64_t *targets, size_t k, const uint64_t *places,
                                                const uint64_t *counts) {
-  const uint64_t w = width(kind, size), all = relays(kind, size);
+  const uint64_t w = width(kind, size) + bundle, all = relays(kind, size);
   Table met(total(w, k, counts));
+  bool bare = false;
   for (size_t i = 0; i < k; ++i) {
-    const uint64_t *row = places + i * w, h = counts[i];
+    const uint64_t *row = places + i * w, h = counts[i], target = targets[bundle ? 0 : i];
     if (h >= w) return 20;
     if (row[0] != source) return 21;
     for (uint64_t p = 1; p <= h; ++p) {
       if (row[p] >= all || !linked(kind, size, row[p - 1], row[p])) return 22;
-      if (row[p] == source || !met.add(row[p])) return 24;
+      if (bundle && p == h) break;
+      if (row[p] == source || (bundle && row[p] == target) || !met.add(row[p])) return 24;
     }
-    if (row[h] != targets[i]) return 23;
+    if (row[h] != target) return 23;
+    if (bundle && h == 1 && bare) return 24;
+    bare |= h == 1;
     for (uint64_t p = h + 1; p < w; ++p)
       if (row[p] != kNone) return 25;
   }
@@ -87,7 +92,7 @@ __attribute__((noinline)) uint64_t judge_table(uint64_t kind, uint64_t size, uin
 // Judged; then a bit for each relay of the fan, and one pass over the relays that have stopped: one that has its bit is looked for on the paths that are whole.
 __attribute__((noinline)) uint64_t survive_bits(uint64_t kind, uint64_t size, uint64_t source, const uint64_t *targets, size_t k, const uint64_t *places,
                                                 const uint64_t *counts, const uint64_t *stopped, size_t n, uint64_t *ends, uint64_t *hops, uint64_t *wholes) {
-  if (judge_table(kind, size, source, targets, k, places, counts)) std::abort();
+  if (judge_table<false>(kind, size, source, targets, k, places, counts)) std::abort();
   const uint64_t w = width(kind, size);
   Bits fan;
   for (size_t i = 0; i < k; ++i) {
@@ -112,10 +117,11 @@ struct Case {
   std::vector<uint64_t> places, counts;
 };
 
-// About a megabyte of fans.
+// About a megabyte of fans with all links, or of bundles.
+template <bool bundle>
 std::vector<Case> cases(uint64_t kind, uint64_t size, std::mt19937_64 &random) {
   const GustFacts facts = gust_facts(kind, size);
-  const size_t room = facts.links * width(kind, size);
+  const size_t room = facts.links * (width(kind, size) + bundle);
   std::vector<Case> all(std::max<size_t>(64, (1 << 20) / (8 * room)));
   for (Case &c : all) {
     c = {{size, random() % facts.relays, {}}, std::vector<uint64_t>(room), std::vector<uint64_t>(facts.links)};
@@ -124,71 +130,84 @@ std::vector<Case> cases(uint64_t kind, uint64_t size, std::mt19937_64 &random) {
       const uint64_t t = random() % facts.relays;
       if (seen.insert(t).second) c.q.targets.push_back(t);
     }
-    if (gust_fan(kind, size, c.q.source, c.q.targets.data(), c.q.targets.size(), c.places.data(), room, c.counts.data(), facts.links).number) std::abort();
+    const uint64_t *targets = c.q.targets.data();
+    const GustAnswer planned = bundle ? gust_bundle(kind, size, c.q.source, targets[0], c.places.data(), room, c.counts.data(), facts.links)
+                                      : gust_fan(kind, size, c.q.source, targets, facts.links, c.places.data(), room, c.counts.data(), facts.links);
+    if (planned.number) std::abort();
   }
   return all;
 }
 
 template <class Do>
-double burst(const std::vector<Case> &all, Do once) {
+double burst(std::vector<Case> &all, Do once) {
   const auto start = std::chrono::steady_clock::now();
-  for (const Case &c : all) once(c);
+  for (Case &c : all) once(c);
   return std::chrono::duration<double, std::nano>(std::chrono::steady_clock::now() - start).count() / static_cast<double>(all.size());
 }
 
-uint64_t ours(uint64_t kind, const Case &c) {
-  return gust_judge(kind, c.q.size, c.q.source, c.q.targets.data(), c.q.targets.size(), c.places.data(), c.places.size(), c.counts.data(), c.counts.size()).number;
-}
-
-template <uint64_t kind>
-uint64_t stacked(uint64_t size, uint64_t source, const uint64_t *targets, size_t k, uint64_t *places, size_t room, uint64_t *counts, size_t counted) {
+template <uint64_t kind, bool bundle>
+uint64_t ours(uint64_t size, uint64_t source, const uint64_t *targets, size_t k, uint64_t *places, size_t room, uint64_t *counts, size_t counted) {
+  if (bundle) return gust_judge_bundle(kind, size, source, targets[0], places, room, counts, counted).number;
   return gust_judge(kind, size, source, targets, k, places, room, counts, counted).number;
 }
 
+// What a call takes of the stack, of the first of the cases.
+size_t stack(measure::Plan plan, const Case &c) {
+  static Fan fan;
+  std::copy(c.places.begin(), c.places.end(), fan.places);
+  std::copy(c.counts.begin(), c.counts.end(), fan.counts);
+  return measure::stack(plan, {c.q}, fan);
+}
+
 // Nanoseconds a place.
-template <uint64_t kind>
+template <uint64_t kind, bool bundle>
 double row(const char *name, uint64_t size, std::mt19937_64 &random, double &worst) {
-  const std::vector<Case> all = cases(kind, size, random);
+  std::vector<Case> all = cases<bundle>(kind, size, random);
   double a = 1e99, b = 1e99;
   for (int i = 0; i < 100; ++i) {
-    a = std::min(a, burst(all, [](const Case &c) {
-                   if (ours(kind, c)) std::abort();
+    a = std::min(a, burst(all, [](Case &c) {
+                   if (ours<kind, bundle>(c.q.size, c.q.source, c.q.targets.data(), c.q.targets.size(), c.places.data(), c.places.size(), c.counts.data(),
+                                          c.counts.size()))
+                     std::abort();
                  }));
-    b = std::min(b, burst(all, [](const Case &c) {
-                   if (judge_table(kind, c.q.size, c.q.source, c.q.targets.data(), c.q.targets.size(), c.places.data(), c.counts.data())) std::abort();
+    b = std::min(b, burst(all, [](Case &c) {
+                   if (judge_table<bundle>(kind, c.q.size, c.q.source, c.q.targets.data(), c.q.targets.size(), c.places.data(), c.counts.data())) std::abort();
                  }));
   }
-  Fan fan;
-  std::copy(all[0].places.begin(), all[0].places.end(), fan.places);
-  std::copy(all[0].counts.begin(), all[0].counts.end(), fan.counts);
-  const size_t stack = measure::stack(stacked<kind>, {all[0].q}, fan);
-  const double places = static_cast<double>(all[0].q.targets.size() * width(kind, size));
+  const double place = a / static_cast<double>(all[0].places.size());
   worst = std::max(worst, a / b);
-  std::printf("judge, %s %llu: Rattle %7.1f ns a fan, C++ %7.1f ns, ratio %.2f; %.2f ns a place; stack %zu bytes\n", name, (unsigned long long)size, a, b, a / b,
-              a / places, stack);
-  return a / places;
+  std::printf("judge, %s %s %llu: Rattle %7.1f ns, C++ %7.1f ns, ratio %.2f; %.2f ns a place; stack %zu bytes\n", bundle ? "bundle," : "fan,", name,
+              (unsigned long long)size, a, b, a / b, place, stack(ours<kind, bundle>, all[0]));
+  return place;
+}
+
+std::vector<uint64_t> stopped;
+
+uint64_t survive(uint64_t size, uint64_t source, const uint64_t *targets, size_t k, uint64_t *places, size_t room, uint64_t *counts, size_t counted) {
+  static uint64_t ends[kCounts], hops[kCounts], wholes[kCounts], cuts[2];
+  const GustAnswer told = gust_survivors(2, size, source, targets, k, places, room, counts, counted, stopped.data(), stopped.size(), cuts, 0, ends, kCounts, hops,
+                                         kCounts, wholes, kCounts);
+  if (told.number) std::abort();
+  return told.value;
 }
 
 // Survivors of order 3 with these stopped.
-double survivors(const char *name, const std::vector<Case> &all, const std::vector<uint64_t> &stopped) {
-  uint64_t ends[2][kCounts], hops[2][kCounts], wholes[2][kCounts], cuts = 0;
+double survivors(const char *name, std::vector<Case> &all) {
+  uint64_t ends[kCounts], hops[kCounts], wholes[kCounts];
   double a = 1e99, b = 1e99;
   for (int i = 0; i < 30; ++i) {
-    a = std::min(a, burst(all, [&](const Case &c) {
-                   const size_t k = c.q.targets.size();
-                   if (gust_survivors(2, c.q.size, c.q.source, c.q.targets.data(), k, c.places.data(), c.places.size(), c.counts.data(), c.counts.size(), stopped.data(),
-                                      stopped.size(), &cuts, 0, ends[0], kCounts, hops[0], kCounts, wholes[0], kCounts)
-                           .number)
-                     std::abort();
+    uint64_t one = 0, other = 0;
+    a = std::min(a, burst(all, [&](Case &c) {
+                   one += survive(c.q.size, c.q.source, c.q.targets.data(), c.q.targets.size(), c.places.data(), c.places.size(), c.counts.data(), c.counts.size());
                  }));
-    b = std::min(b, burst(all, [&](const Case &c) {
-                   survive_bits(2, c.q.size, c.q.source, c.q.targets.data(), c.q.targets.size(), c.places.data(), c.counts.data(), stopped.data(), stopped.size(),
-                                 ends[1], hops[1], wholes[1]);
+    b = std::min(b, burst(all, [&](Case &c) {
+                   other += survive_bits(2, c.q.size, c.q.source, c.q.targets.data(), c.q.targets.size(), c.places.data(), c.counts.data(), stopped.data(),
+                                         stopped.size(), ends, hops, wholes);
                  }));
-    for (size_t j = 0; j < all[0].q.targets.size(); ++j)
-      if (ends[0][j] != ends[1][j] || hops[0][j] != hops[1][j] || wholes[0][j] != wholes[1][j]) std::abort();
+    if (one != other) std::abort();
   }
-  std::printf("survivors, order 3, %zu stopped, %s: Rattle %8.1f ns, C++ %8.1f ns, ratio %.2f\n", stopped.size(), name, a, b, a / b);
+  std::printf("survivors, order 3, %zu stopped, %s: Rattle %7.1f ns, C++ %7.1f ns, ratio %.2f; stack %zu bytes\n", stopped.size(), name, a, b, a / b,
+              stack(survive, all[0]));
   return a / b;
 }
 
@@ -197,16 +216,21 @@ double survivors(const char *name, const std::vector<Case> &all, const std::vect
 int main() {
   std::mt19937_64 random(2027);
   double worst = 0;
-  const double small = row<1>("cube", 8, random, worst);
-  row<1>("cube", 16, random, worst);
-  const double large = row<1>("cube", 32, random, worst);
-  for (uint64_t m = 2; m <= 5; ++m) row<2>("order", m, random, worst);
+  const double small = row<1, false>("cube", 8, random, worst);
+  row<1, false>("cube", 16, random, worst);
+  const double large = row<1, false>("cube", 32, random, worst);
+  for (uint64_t m = 2; m <= 5; ++m) row<2, false>("order", m, random, worst);
+  for (uint64_t n : {8, 32}) row<1, true>("cube", n, random, worst);
+  for (uint64_t m : {3, 5}) row<2, true>("order", m, random, worst);
   std::printf("judge: the worst ratio is %.2f, at most 2.00 is wanted; a place of 32 dimensions costs %.2f times one of 8, at most 1.50 is wanted\n", worst, large / small);
-  const std::vector<Case> all = cases(2, 3, random);
-  std::vector<uint64_t> mixed(2000), absent(2000);
-  for (uint64_t &x : mixed) x = random() % 2048;
-  for (uint64_t &x : absent) x = 2048 + random() % 2048;
-  worst = survivors("relays at random", all, mixed);
-  worst = std::max(worst, survivors("none of them a relay", all, absent));
-  std::printf("survivors: the worst ratio is %.2f, at most 2.00 is wanted\n", worst);
+  std::vector<Case> all = cases<false>(2, 3, random);
+  stopped.resize(3);
+  for (uint64_t &x : stopped) x = random() % 2048;
+  survivors("relays at random", all);
+  stopped.resize(2000);
+  for (uint64_t &x : stopped) x = random() % 2048;
+  worst = survivors("relays at random", all);
+  for (uint64_t &x : stopped) x = 2048 + random() % 2048;
+  worst = std::max(worst, survivors("none of them a relay", all));
+  std::printf("survivors: the worst ratio with 2000 stopped is %.2f, at most 2.00 is wanted\n", worst);
 }
