@@ -27,20 +27,20 @@ module _ {marks : List ℕ} (r : Rules) {w : ℕ} (places counts : List ℕ) (i 
   differs : (y : ℕ) → marked marks y ≡ true → y ≢ x
   differs y t z = true-false (ap (marked marks) (sym z) ∙ t) (sym m ∙ f)
 
-  not-on-this : among places (i * w) p x ≡ false
+  -- x stands not among the first n relays of path j, all of which have their marks
+  not-in : (j n : ℕ) → ((q : ℕ) → q < n → marked marks (relay w places j q) ≡ true) → among places (j * w) n x ≡ false
   unfolding relay
-  not-on-this = false-among places (i * w) p x (λ j h g. differs (getD places j 0) (ap (λ (n : ℕ). marked marks (getD places n 0)) (at j h) ∙ l .here (j - i * w) (omega arith)))
+  not-in j n h = false-among places (j * w) n x (λ c a b. differs (getD places c 0) (ap (λ (c : ℕ). marked marks (getD places c 0)) (at c a) ∙ h (c - j * w) (omega arith)))
     where
-      at : (j : ℕ) → i * w ≤ j → j ≡ i * w + (j - i * w)
-      at j h = omega arith
+      at : (c : ℕ) → j * w ≤ c → c ≡ j * w + (c - j * w)
+      at c a = omega arith
+
+  not-on-this : among places (i * w) p x ≡ false
+  not-on-this = not-in i p (l .here)
 
   not-on-earlier : any (on w places counts x) 0 i ≡ false
-  unfolding on relay
-  not-on-earlier = false-any (on w places counts x) 0 i (λ j h g. false-among places (j * w) (hops counts j + 1) x
-      (λ n a c. differs (getD places n 0) (ap (λ (n : ℕ). marked marks (getD places n 0)) (at j n a) ∙ l .earlier j (n - j * w) (omega arith) (omega arith))))
-    where
-      at : (j n : ℕ) → j * w ≤ n → n ≡ j * w + (n - j * w)
-      at j n h = omega arith
+  unfolding on
+  not-on-earlier = false-any (on w places counts x) 0 i (λ j a b. not-in j (hops counts j + 1) (λ q h. l .earlier j q (omega arith) h))
 
   pub new-excepted : {c q : Bool} → c ≡ r .excepted (hops counts i) p → c ≡ true → q ≡ twinned r counts i p → q ≡ seen r places counts i p
   new-excepted g t z = seen-excepted r places counts i p wide e (sym not-on-this) refl g t z

@@ -22,32 +22,30 @@ fn word(s: u64) -> usize
     (s / 16777216 % 256) as usize
 }
 
-// The bit of the mark that is asked for first.
+// The two bits of the mark in that word.
 fn first(s: u64) -> u32
     ensures { λ r. ⌜ (r ≡ specs.firstAt s) × (r < 64) ⌝ }
 {
     (s / 4294967296 % 64) as u32
 }
 
-// The mark in that word.
-fn mask(s: u64) -> u64
-    ensures { λ r. ⌜ r ≡ specs.maskAt s ⌝ }
+fn second(s: u64) -> u32
+    ensures { λ r. ⌜ (r ≡ specs.secondAt s) × (r < 64) ⌝ }
 {
-    bits::power(first(s)) | bits::power((s / 262144 % 64) as u32)
+    (s / 262144 % 64) as u32
 }
 
-// Whether the relay has its mark. Most have not even its first bit.
+// Whether the relay has its mark. Most that have none have not even its first bit.
 pub fn marked(marks: &[u64], x: u64) -> bool
     requires { ⌜ length (now marks) ≡ specs.words ⌝ }
     ensures { λ r. ⌜ r ≡ specs.marked (now (marks .entry)) x ⌝ }
 {
     let s = scatter(x);
     let w = marks[word(s)];
-    if !bits::bit(w, first(s)) {
-        return false;
+    if bits::bit(w, first(s)) {
+        return bits::bit(w, second(s));
     }
-    let m = mask(s);
-    w & m == m
+    false
 }
 
 // Gives the relay its mark.
@@ -57,6 +55,7 @@ pub fn put(marks: &mut [u64], x: u64)
 {
     let s = scatter(x);
     let i = word(s);
-    let m = mask(s);
-    marks[i] = marks[i] | m;
+    let one = bits::power(first(s));
+    let other = bits::power(second(s));
+    marks[i] = marks[i] | one | other;
 }

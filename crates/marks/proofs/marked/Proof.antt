@@ -1,5 +1,5 @@
--- `marks::marked` meets its contract: the relay's word has the relay's mark, of which one bit is asked for first. Assumes nothing.
-use Rattle.marks.specs.Laws.{marked-told, first-told}
+-- `marks::marked` meets its contract: the relay's word has both bits of its mark. Assumes nothing.
+use Rattle.marks.specs.Laws.{first-told, second-told}
 use borrow.Author.Needs.{needs}
 use Rattle.marks.proofs.marked.Statement.{statement}
 use Rattle.marks.proofs.marked.Tie as tie
@@ -22,21 +22,26 @@ first-requires c κs = search needs
 bit-requires : tie.Need-bit-requires
 bit-requires c κs = search needs
 
+second-requires : tie.Need-second-requires
+second-requires c κs = search needs
+
+bit-requires-2 : tie.Need-bit-requires-2
+bit-requires-2 c κs = search needs
+
 returns : tie.Need-returns
 returns c =
-    let b = c .before in
+    let t = c .before .before in
+    let b = t .before in
     let q = b .before .before .before in
     let a = q .before .before .before .args in
-    first-told (a .marks .now) (a .x) (q .before .scatter .ensures) (q .word .ensures .0) (b .before .first .ensures .0) (b .bit .ensures) (c .if1 .taken)
-
-mask-requires : tie.Need-mask-requires
-mask-requires c κs = search needs
+    second-told (a .marks .now) (a .x) (q .before .scatter .ensures) (q .word .ensures .0) (b .before .first .ensures .0) (c .before .second .ensures .0) (b .bit .ensures) (t .if1 .taken) (c .bit2 .ensures)
 
 returns-2 : tie.Need-returns-2
 returns-2 c =
-    let q = c .before .before .before .before .before in
+    let b = c .before in
+    let q = b .before .before .before in
     let a = q .before .before .before .args in
-    marked-told (a .marks .now) (a .x) (q .before .scatter .ensures) (q .word .ensures .0) (c .mask .ensures)
+    first-told (a .marks .now) (a .x) (q .before .scatter .ensures) (q .word .ensures .0) (b .before .first .ensures .0) (b .bit .ensures) (c .if1 .left)
 
 pub marked-spec : {M : Type 1} → statement M
 marked-spec =
@@ -48,6 +53,7 @@ marked-spec =
     shared-slice-read-w
     first-requires
     bit-requires
+    second-requires
+    bit-requires-2
     returns
-    mask-requires
     returns-2)

@@ -1,4 +1,4 @@
--- `marks::put` meets its contract: the relay's word gets the relay's mark. Assumes nothing.
+-- `marks::put` meets its contract: the relay's word gets both bits of its mark. Assumes nothing.
 use Rattle.marks.specs.Laws.{put-told}
 use borrow.Author.Needs.{needs}
 use Rattle.marks.proofs.put.Statement.{statement}
@@ -10,8 +10,17 @@ scatter-requires c κs = search needs
 word-requires : tie.Need-word-requires
 word-requires c κs = search needs
 
-mask-requires : tie.Need-mask-requires
-mask-requires c κs = search needs
+first-requires : tie.Need-first-requires
+first-requires c κs = search needs
+
+power-requires : tie.Need-power-requires
+power-requires c κs = search needs
+
+second-requires : tie.Need-second-requires
+second-requires c κs = search needs
+
+power-requires-2 : tie.Need-power-requires-2
+power-requires-2 c κs = search needs
 
 mul-marks : tie.Need-mul-marks
 mul-marks c = search needs
@@ -30,10 +39,11 @@ same-length c = search needs
 
 returns : tie.Need-returns
 returns c =
-    let k = c .before in
-    let q = k .before in
+    let p = c .before in
+    let o = p .before .before in
+    let q = o .before .before in
     let a = q .before .before .before .args in
-    put-told (a .marks .now) (a .x) (q .before .scatter .ensures) (q .word .ensures .0) (k .mask .ensures)
+    put-told (a .marks .now) (a .x) (q .before .scatter .ensures) (q .word .ensures .0) (o .before .first .ensures .0) (p .before .second .ensures .0) (o .power .ensures) (p .power2 .ensures)
 
 pub put-spec : {M : Type 1} → statement M
 put-spec =
@@ -41,7 +51,10 @@ put-spec =
     (tie.spec
     scatter-requires
     word-requires
-    mask-requires
+    first-requires
+    power-requires
+    second-requires
+    power-requires-2
     mul-marks
     slice-read-marks
     mul-marks-2
