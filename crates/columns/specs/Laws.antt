@@ -9,8 +9,9 @@ use native.Mathlib.Omega.{arith}
 use native.Mathlib.Decide.{ℕ-discrete}
 use lib.ListN.{length, take, drop, set, getD, length-set, length-drop, length-append, List·getD-append}
 use lib.Seq.{take-suc, drop-cons, set-at, getD-at}
-use Rattle.scan.specs.Scan.{pick, any, count, among, has}
-use Rattle.scan.specs.Laws.{first-true}
+use Rattle.marks.specs.Marks.{marked}
+use Rattle.scan.specs.Scan.{pick, any, count, has}
+use Rattle.scan.specs.Laws.{true-false, not-true, first-true}
 use Rattle.paths.specs.Fan.{relay, hops}
 use Rattle.paths.specs.Whole.{Failed, failed, pair, cut, stops, severs, broken, whole}
 use Rattle.columns.specs.Says.{ahead, marks}
@@ -94,11 +95,15 @@ count-most test (suc i) = go (test i) (count-most test i)
 
 -- ---- one path
 
+-- what would have its mark and has none has not failed
+pub unstruck : (hit : List ℕ) {t b : Bool} {x y : ℕ} → (t ≡ true → marked hit y ≡ true) → x ≡ y → b ≡ marked hit x → b ≡ false → false ≡ t
+unstruck hit h e m f = sym (not-true (λ a. true-false (h a) (ap (marked hit) (sym e) ∙ sym m ∙ f)))
+
 -- what code has of a relay, and of whether it stands in the list
 pub stop-told : (w : ℕ) (places : List ℕ) (fails : Failed) (i p : ℕ) {x : ℕ} {r b : Bool} → x ≡ relay w places i p
-    → r ≡ among (fails .stopped) 0 (length (fails .stopped)) x → r ≡ b → stops w places fails i p ≡ b
-unfolding stops has
-stop-told w places fails i p e f g = ap (among (fails .stopped) 0 (length (fails .stopped))) (sym e) ∙ sym f ∙ g
+    → r ≡ has (fails .stopped) x → r ≡ b → stops w places fails i p ≡ b
+unfolding stops
+stop-told w places fails i p e f g = ap (has (fails .stopped)) (sym e) ∙ sym f ∙ g
 
 -- what code has of two relays, and of whether they are a cut link
 pub cut-told : (w : ℕ) (places : List ℕ) (fails : Failed) (i p : ℕ) {u v : ℕ} {r b : Bool} → u ≡ relay w places i p → v ≡ relay w places i (p + 1)

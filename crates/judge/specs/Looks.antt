@@ -14,6 +14,10 @@ use Rattle.paths.specs.Finding.{Finding, clean, found, report, report-at, unlin
 
 -- ---- one test
 
+-- what is told is not that nothing was found
+pub told : {n i p : ℕ} → found n i p ≡ clean → ⊥
+told e = let z : _≡_ {A = ℕ} 0 1 = cc in omega arith
+
 reported : {b : Bool} (f rest : Finding) → b ≡ true → f ≡ report b f rest
 reported f rest e = sym (ap (λ (b : Bool). report b f rest) e)
 

@@ -2,3 +2,4 @@
 pub mod Rules
 pub mod Needs
 pub mod Laws
+pub mod Looked

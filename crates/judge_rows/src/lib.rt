@@ -2,11 +2,12 @@
 ghost use mathlib.Core.Path.{_≡_};
 ghost use Prim.Native.Nat.{ℕ, _+_, _-_, _*_, _≤_, _<_};
 ghost use lib.ListN.{length};
-ghost use Rattle.scan.specs.Scan.{seek, any, spotOf};
+ghost use Rattle.scan.specs.Scan.{nowhere, seek, any, spotOf};
 ghost use Rattle.paths.specs.Fan as fan;
 ghost use Rattle.paths.specs.Finding as finding;
 ghost use Rattle.judge_rows.specs.Rules.{rulesOf};
 ghost use Rattle.judge_rows.specs.Needs.{Row, Laid, Step, Held, After};
+ghost use Rattle.judge_rows.specs.Looked.{Looked};
 use mesh::Mesh;
 use paths::FILLER;
 use scan::Spot;
@@ -137,16 +138,54 @@ fn seen(rules: Rules, places: &[u64], counts: &[u64], i: usize, p: usize) -> boo
     on_earlier(w, places, counts, x, i)
 }
 
-// The first place of path i, of h hops, that is so.
-pub fn seen_at(rules: Rules, places: &[u64], counts: &[u64], i: usize, h: usize) -> Spot
-    requires { ⌜ After rules (length (now places)) (now counts) i h ⌝ }
-    ensures { λ r. ⌜ spotOf r ≡ seek (finding.seen (rulesOf rules) (now (places .entry)) (now (counts .entry)) i) 0 (h + 1) ⌝ }
+// The same of a relay x, by the marks of all relays looked at before: without its mark it is new, and else it is looked for.
+fn seen_marked(
+    rules: Rules,
+    marks: &[u64],
+    places: &[u64],
+    counts: &[u64],
+    i: usize,
+    p: usize,
+    x: u64,
+) -> bool
+    requires { ⌜ After rules (length (now places)) (now counts) i p ⌝ }
+    requires { ⌜ Looked (now marks) (rules .width) (now places) (now counts) i p ⌝ }
+    requires { ⌜ x ≡ fan.relay (rules .width) (now places) i p ⌝ }
+    ensures { λ r. ⌜ r ≡ finding.seen (rulesOf rules) (now (places .entry)) (now (counts .entry)) i p ⌝ }
 {
+    if marks::marked(marks, x) {
+        return seen(rules, places, counts, i, p);
+    }
+    let h = counts[i] as usize;
+    if excepted(rules, h, p) {
+        return twinned(rules, counts, i, h, p);
+    }
+    false
+}
+
+// The first place of path i, of h hops, that is so. Where there is none, the path's relays are marked too.
+pub fn seen_at(
+    rules: Rules,
+    marks: &mut [u64],
+    places: &[u64],
+    counts: &[u64],
+    i: usize,
+    h: usize,
+) -> Spot
+    requires { ⌜ After rules (length (now places)) (now counts) i h ⌝ }
+    requires { ⌜ Looked (now marks) (rules .width) (now places) (now counts) i 0 ⌝ }
+    requires { ⌜ h ≡ fan.hops (now counts) i ⌝ }
+    ensures { λ r. ⌜ spotOf r ≡ seek (finding.seen (rulesOf rules) (now (places .entry)) (now (counts .entry)) i) 0 (h + 1) ⌝ }
+    ensures { λ r. ⌜ (spotOf r ≡ nowhere → Looked (now (marks .exit)) (rules .width) (now (places .entry)) (now (counts .entry)) (i + 1) 0) ⌝ }
+{
+    let w = rules.width;
     let mut p: usize = 0;
     while p <= h {
-        if seen(rules, places, counts, i, p) {
+        let x = relay(w, places, i, p);
+        if seen_marked(rules, marks, places, counts, i, p, x) {
             return Spot::At(p);
         }
+        marks::put(marks, x);
         p += 1;
     }
     Spot::Nowhere

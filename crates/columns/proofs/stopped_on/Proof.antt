@@ -7,16 +7,17 @@ use Rattle.scan.specs.Scan.{found, any}
 use Rattle.scan.specs.Laws.{Passed, passed-start, passed-more, passed-at, passed-all}
 use Rattle.paths.specs.Fan.{hops}
 use Rattle.paths.specs.Whole.{failed, stops}
+use Rattle.struck.specs.Laws.{stop-struck}
 use Rattle.columns.specs.Laws.{stop-told}
 use borrow.Author.Needs.{needs}
 use Rattle.columns.proofs.stopped_on.Statement.{statement}
 use Rattle.columns.proofs.stopped_on.Tie as tie
 
 abbrev Inv-loop : tie.InvT-loop
-Inv-loop w places counts stopped i h p₀ p = Passed (stops w places (failed stopped []) i) 0 (h + 1) p
+Inv-loop w places counts stopped hit i h p₀ p = Passed (stops w places (failed stopped []) i) 0 (h + 1) p
 
 abbrev μ-loop : tie.MeasureT-loop
-μ-loop w places counts stopped i h p₀ p = h + 1 - p
+μ-loop w places counts stopped hit i h p₀ p = h + 1 - p
 
 mul-h : tie.Need-mul-h Inv-loop μ-loop
 mul-h c = search needs
@@ -29,21 +30,25 @@ loop-holds c = passed-start _ 0 _
 
 relay-requires : tie.Need-relay-requires Inv-loop μ-loop
 unfolding hops
-relay-requires c κs = let s = c .before .before .before .before .before .before in omega (arith, s .pre .row .room, s .pre .row .short)
+relay-requires c κs = let s = c .before .before .before .before .before .before .before in omega (arith, s .pre .0 .row .room, s .pre .0 .row .short)
 
-among-requires : tie.Need-among-requires Inv-loop μ-loop
-among-requires c κs = search needs
+stopped-at-requires : tie.Need-stopped-at-requires Inv-loop μ-loop
+unfolding hops
+stopped-at-requires c κs =
+    let s = c .before .before .before .before .before .before .before .before in
+    let a = s .args in
+    (s .pre .1 .long, λ t. stop-struck (a .w) (a .places .now) (a .counts .now) (a .stopped .now) (a .i) _ (s .pre .1) (omega arith) (c .relay .ensures) t)
 
 returns : tie.Need-returns Inv-loop μ-loop
 unfolding hops any
 returns c =
     let l = c .before .before .before .before in
-    let a = l .before .before .before .before .before .args in
-    sym (ap found (passed-at (l .loop .inv) (omega arith) (stop-told (a .w) (a .places .now) (failed (a .stopped .now) []) (a .i) _ (c .before .before .relay .ensures) (c .before .among .ensures) (c .if1 .taken))))
+    let a = l .before .before .before .before .before .before .args in
+    sym (ap found (passed-at (l .loop .inv) (omega arith) (stop-told (a .w) (a .places .now) (failed (a .stopped .now) []) (a .i) _ (c .before .before .relay .ensures) (c .before .stopped-at .ensures) (c .if1 .taken))))
 
 add-p : tie.Need-add-p Inv-loop μ-loop
 unfolding hops
-add-p c = let s = c .before .before .before .before .before .before .before .before .before in omega (arith, s .pre .row .room, s .pre .row .short, s .good)
+add-p c = let s = c .before .before .before .before .before .before .before .before .before .before in omega (arith, s .pre .0 .row .room, s .pre .0 .row .short, s .good)
 
 loop-less : tie.Need-loop-less Inv-loop μ-loop
 loop-less c = search needs
@@ -51,8 +56,8 @@ loop-less c = search needs
 loop-again : tie.Need-loop-again Inv-loop μ-loop
 loop-again c =
     let l = c .before .before .before .before in
-    let a = l .before .before .before .before .before .args in
-    passed-more (l .loop .inv) (omega arith) (stop-told (a .w) (a .places .now) (failed (a .stopped .now) []) (a .i) _ (c .before .before .relay .ensures) (c .before .among .ensures) (c .if1 .left))
+    let a = l .before .before .before .before .before .before .args in
+    passed-more (l .loop .inv) (omega arith) (stop-told (a .w) (a .places .now) (failed (a .stopped .now) []) (a .i) _ (c .before .before .relay .ensures) (c .before .stopped-at .ensures) (c .if1 .left))
 
 returns-2 : tie.Need-returns-2 Inv-loop μ-loop
 unfolding hops any
@@ -68,7 +73,7 @@ stopped-on-spec =
     shared-slice-read-h
     loop-holds
     relay-requires
-    among-requires
+    stopped-at-requires
     returns
     add-p
     loop-less

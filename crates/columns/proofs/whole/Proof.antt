@@ -9,7 +9,7 @@ stopped-on-requires c κs = search needs
 
 returns : tie.Need-returns
 returns c =
-    let a = c .before .before .before .before .before .before .args in
+    let a = c .before .before .before .before .before .before .before .before .args in
     stopped-told (a .w) (a .places .now) (a .counts .now) (a .stopped .now) (a .cuts .now) (a .i) (c .before .stopped-on .ensures) (c .if1 .taken)
 
 cut-on-requires : tie.Need-cut-on-requires
@@ -17,7 +17,7 @@ cut-on-requires c κs = search needs
 
 returns-2 : tie.Need-returns-2
 returns-2 c =
-    let a = c .before .before .before .before .before .before .before .args in
+    let a = c .before .before .before .before .before .before .before .before .before .args in
     whole-told (a .w) (a .places .now) (a .counts .now) (a .stopped .now) (a .cuts .now) (a .i) (c .before .before .stopped-on .ensures) (c .before .if1 .left) (c .cut-on .ensures)
 
 pub whole-spec : {M : Type 1} → statement M
