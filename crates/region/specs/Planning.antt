@@ -16,17 +16,19 @@ use borrow.Author.Tests.{not-false, ltb-true, ltb-false, lt-ltb, le-ltb, eq-eqb,
 use Rattle.scan.specs.Scan.{Spot, nowhere, at, pick}
 use Rattle.scan.specs.Laws.{seek-first, true-or}
 use Rattle.answers.specs.Order.{first, refuse, refuse-at, firstAt, isOut, isSame, isAgain}
+use Rattle.answers.specs.Pairs.{room-refused, room-short, room-granted}
 use Rattle.answers.specs.Told.{place, against}
 use Rattle.answers.specs.declared.Refusal.{Refusal}
-use Rattle.answers.specs.declared.Refusal.the-variants.{Unreadable, UnknownSize, SourceOut, NoTarget, TooMany, TargetOut, TargetIsSource, TargetAgain, NoRoom}
+use Rattle.answers.specs.declared.Refusal.the-variants.{Unreadable, UnknownSize, NotServed, SourceOut, NoTarget, TooMany, TargetOut, TargetIsSource, TargetAgain, NoRoom}
 use Rattle.answers.specs.declared.Checked.{Checked}
 use Rattle.answers.specs.declared.Checked.the-variants as checked
 use Rattle.paths.specs.Mesh.{width}
 use Rattle.paths.specs.Fan.{Fan}
 use Rattle.mesh.specs.Kinds.{kindOf, meshOf, known}
-use Rattle.mesh.specs.Limits.{mostLinks, known-links, known-width, known-places}
-use Rattle.mesh.specs.Says.{requestAgainst, short}
-use Rattle.mesh.specs.Requests.{Fine, request-fine, checked-fine, request-refused, request-short, request-granted, room-enough}
+use Rattle.mesh.specs.Limits.{mostLinks, known-links, known-width, planned-links, planned-places}
+use Rattle.mesh.specs.Laws.{known-planned}
+use Rattle.mesh.specs.Says.{plannedAgainst, short}
+use Rattle.mesh.specs.Requests.{plannedEarly, plan-fine, plan-asked, room-enough}
 use Rattle.requests.specs.Planned as requests
 use Rattle.requests.specs.Planned.{not-both}
 use Rattle.planner.specs.Needs as planner
@@ -61,9 +63,10 @@ module _ (why : Refusal) where
   through-at nowhere f rest p q e = q e
   through-at (at j) f rest p q e = subst (λ (y : Refusal). place y < 256) (some-inj e) (p j refl)
 
-  request-small : (kind size s : ℕ) (targets : List ℕ) → requestAgainst (kindOf kind) size s targets false ≡ some why → place why < 256
+  request-small : (kind size s : ℕ) (targets : List ℕ) → plannedAgainst (kindOf kind) size s targets false ≡ some why → place why < 256
   request-small kind size s targets =
       through (not (known kind size)) UnknownSize _ (omega arith) (λ k.
+      through (not (kindOf kind .planned)) NotServed _ (omega arith) (λ v.
       through (leb (meshOf kind size .relays) s) SourceOut _ (omega arith) (λ a.
       through (eqb (length targets) 0) NoTarget _ (omega arith) (λ b.
       through (ltb (meshOf kind size .links) (length targets)) TooMany _ (omega arith) (λ m.
@@ -71,9 +74,9 @@ module _ (why : Refusal) where
       λ test p e. omega (arith, seek-first test 0 (length targets) p e .within, ltb-false (meshOf kind size .links) (length targets) m, known-links kind size (not-false (known kind size) k)) in
       through-at (firstAt targets (isOut (meshOf kind size .relays) targets)) TargetOut _ (below (isOut (meshOf kind size .relays) targets))
       (through-at (firstAt targets (isSame s targets)) TargetIsSource _ (below (isSame s targets))
-      (through-at (firstAt targets (isAgain targets)) TargetAgain _ (below (isAgain targets)) (λ e. not-both refl (sym e))))))))
+      (through-at (firstAt targets (isAgain targets)) TargetAgain _ (below (isAgain targets)) (λ e. not-both refl (sym e)))))))))
 
-pub request-place : (kind size s : ℕ) (targets : List ℕ) {r : Checked} {why : Refusal} → r ≡ checked.Refused why → against r ≡ requestAgainst (kindOf kind) size s targets false → place why < 256
+pub request-place : (kind size s : ℕ) (targets : List ℕ) {r : Checked} {why : Refusal} → r ≡ checked.Refused why → against r ≡ plannedAgainst (kindOf kind) size s targets false → place why < 256
 request-place kind size s targets {r} {why} f e = request-small why kind size s targets (sym e ∙ ap against f)
 
 -- ---- the most bytes of a sheet
@@ -83,7 +86,7 @@ module _ (kind size k : ℕ) {w : ℕ} (e : w ≡ width (meshOf kind size)) wher
   longest-is : w - 1 ≡ meshOf kind size .longest
   longest-is = omega (arith, e)
 
-  pub most-few : known kind size ≡ true → k ≤ meshOf kind size .links → (8 * (w - 1) ≤ 1648) × (k * (2 + 8 * (w - 1)) ≤ 52800)
+  pub most-few : known kind size ≡ true → k ≤ meshOf kind size .links → (8 * (w - 1) ≤ 1648) × (k * (2 + 8 * (w - 1)) ≤ 61050)
   most-few h g =
       let wide : 2 + 8 * (w - 1) ≤ 1650 = omega (arith, longest-is, known-width kind size h) in
       (omega arith, le-trans (mul-le-mul (le-trans g (known-links kind size h)) wide) (omega arith))
@@ -96,10 +99,11 @@ module _ (kind size k : ℕ) {w : ℕ} (e : w ≡ width (meshOf kind size)) wher
 module _ (kind size s : ℕ) (targets : List ℕ) where
   wide : {places counts out : ℕ} → Layable kind size s targets places counts out → short (meshOf kind size) (length targets) places counts ≡ false
   wide {places} {counts} {out} p =
-      let fine = request-fine (kindOf kind) size s targets (p .clear) in
+      let (fine, v) = plan-fine (kindOf kind) size s targets (p .clear) in
+      let h = known-planned kind size (fine .known) v in
       let all = mul-le-mul-right (width (meshOf kind size)) (fine .sound .few) in
-      let placed : length targets * width (meshOf kind size) ≤ places = omega (arith, all, known-places kind size (fine .known), p .roomy .placed) in
-      let counted : length targets ≤ counts = omega (arith, fine .sound .few, known-links kind size (fine .known), p .roomy .counted) in
+      let placed : length targets * width (meshOf kind size) ≤ places = omega (arith, all, planned-places kind size h, p .roomy .placed) in
+      let counted : length targets ≤ counts = omega (arith, fine .sound .few, planned-links kind size h, p .roomy .counted) in
       enough (meshOf kind size) (length targets) places counts placed counted
 
   -- what laying a fan asks
@@ -111,10 +115,10 @@ module _ (kind size s : ℕ) (targets : List ℕ) where
     pub lay-judged : Judged (kindOf kind) size s targets places₁ counts₁
     lay-judged =
         let room = room-enough (meshOf kind size) (length targets) (length places) (length counts) (wide p) in
-        record { request = p .clear; room = omega (arith, room .0, f .as-long); counted = omega (arith, room .1, f .as-long-counts); fan = f .paths refl }
+        record { request = plan-asked (kindOf kind) size s targets (p .clear); room = omega (arith, room .0, f .as-long); counted = omega (arith, room .1, f .as-long-counts); fan = f .paths refl }
 
     pub lay-sheeted : Sheeted kind size (length targets) (length places₁) counts₁
-    lay-sheeted = judged-sheeted kind size s targets places₁ counts₁ lay-judged
+    lay-sheeted = let (fine, v) = plan-fine (kindOf kind) size s targets (p .clear) in judged-sheeted kind size s targets places₁ counts₁ (known-planned kind size (fine .known) v) lay-judged
 
   pub lay-answered : {places counts places₁ counts₁ out out₁ : List ℕ} {w : Written} → Layable kind size s targets (length places) (length counts) (length out)
       → requests.Planned none (meshOf kind size) s targets places counts checked.Fine places₁ counts₁
@@ -144,17 +148,17 @@ refusal kind size s targets out e p = record {
 abbrev want : (kind size : ℕ) (targets out : List ℕ) → Bool
 want kind size targets out = ltb (length out) (most (meshOf kind size) (length targets))
 
-module _ (kind size s : ℕ) (targets out : List ℕ) {c : Checked} (e : against c ≡ requestAgainst (kindOf kind) size s targets false) where
+module _ (kind size s : ℕ) (targets out : List ℕ) {c : Checked} (e : against c ≡ plannedAgainst (kindOf kind) size s targets false) where
   pub list-refused : {why : Refusal} {r : ℕ} → c ≡ checked.Refused why → r ≡ codeOf (some why) → Planned (listAgainst kind size s targets out) kind size s targets out r out
-  list-refused f p = refusal kind size s targets out (request-refused (kindOf kind) size s targets e (want kind size targets out) f) p
+  list-refused f p = refusal kind size s targets out (room-refused (plannedEarly (kindOf kind) size s targets) (want kind size targets out) e f) p
 
   pub list-known : c ≡ checked.Fine → (known kind size ≡ true) × (length targets ≤ meshOf kind size .links)
-  list-known f = let fine = checked-fine (kindOf kind) size s targets e f in (fine .known, fine .sound .few)
+  list-known f = let fine = plan-fine (kindOf kind) size s targets (sym e ∙ ap against f) .0 in (fine .known, fine .sound .few)
 
   pub list-short : {m r : ℕ} → c ≡ checked.Fine → m ≡ most (meshOf kind size) (length targets) → length out < m → r ≡ codeOf (some NoRoom)
       → Planned (listAgainst kind size s targets out) kind size s targets out r out
   list-short {m} f q h p = refusal kind size s targets out
-      (request-short (kindOf kind) size s targets e {room = want kind size targets out} f (ap (ltb (length out)) q) (lt-ltb (length out) m h)) p
+      (room-short (plannedEarly (kindOf kind) size s targets) (want kind size targets out) e f (ap (ltb (length out)) q) (lt-ltb (length out) m h)) p
 
   pub list-layable : {m places counts : ℕ} → c ≡ checked.Fine → m ≡ most (meshOf kind size) (length targets) → m ≤ length out → Roomy places counts
       → Layable kind size s targets places counts (length out)
@@ -163,22 +167,26 @@ module _ (kind size s : ℕ) (targets out : List ℕ) {c : Checked} (e : against
   pub list-done : {m : ℕ} {out₁ : List ℕ} → c ≡ checked.Fine → m ≡ most (meshOf kind size) (length targets) → m ≤ length out → Answered kind size s targets out out₁
       → Planned (listAgainst kind size s targets out) kind size s targets out 0 out₁
   list-done {m} {out₁} f q h a =
-      let o : none ≡ listAgainst kind size s targets out = request-granted (kindOf kind) size s targets e {room = want kind size targets out} f (ap (ltb (length out)) q) (le-ltb (length out) m h) in
+      let o : none ≡ listAgainst kind size s targets out = room-granted (plannedEarly (kindOf kind) size s targets) (want kind size targets out) e f (ap (ltb (length out)) q) (le-ltb (length out) m h) in
       record { told = ap codeOf o; answered = λ z. a; refused = λ why z. not-both z (sym o) }
 
 -- ---- the first 33 of more targets
 
 -- there are more than any relay has links
-many : (kind size s : ℕ) (targets out : List ℕ) → 32 < length targets → listAgainst kind size s targets out ≡ refuse (not (known kind size)) UnknownSize (refuse (leb (meshOf kind size .relays) s) SourceOut (some TooMany))
-many kind size s targets out h = go (true-or (known kind size))
-  where
-    rest : Option Refusal
-    rest = refuse (leb (meshOf kind size .relays) s) SourceOut (some TooMany)
+module _ (kind size s : ℕ) where
+  -- what is told of so many, by what is known of the mesh and of the source
+  abbrev told-many : (u v w : Bool) → Option Refusal
+  told-many u v w = refuse u UnknownSize (refuse v NotServed (refuse w SourceOut (some TooMany)))
 
-    go : (known kind size ≡ true) ⊎ (known kind size ≡ false) → listAgainst kind size s targets out ≡ refuse (not (known kind size)) UnknownSize rest
-    go (inl k) = let more : meshOf kind size .links < length targets = omega (arith, known-links kind size k) in
-        simp (ne-eqb (length targets) 0 (λ z. omega arith), lt-ltb (meshOf kind size .links) (length targets) more)
-    go (inr u) = simp u
+  many : (targets out : List ℕ) → 32 < length targets → listAgainst kind size s targets out ≡ told-many (not (known kind size)) (not (kindOf kind .planned)) (leb (meshOf kind size .relays) s)
+  many targets out h = go (true-or (known kind size)) (true-or (kindOf kind .planned))
+    where
+      go : (known kind size ≡ true) ⊎ (known kind size ≡ false) → (kindOf kind .planned ≡ true) ⊎ (kindOf kind .planned ≡ false)
+          → listAgainst kind size s targets out ≡ told-many (not (known kind size)) (not (kindOf kind .planned)) (leb (meshOf kind size .relays) s)
+      go (inl k) (inl v) = let more : meshOf kind size .links < length targets = omega (arith, planned-links kind size (known-planned kind size k v)) in
+          simp (ne-eqb (length targets) 0 (λ z. omega arith), lt-ltb (meshOf kind size .links) (length targets) more)
+      go (inl k) (inr v) = simp (k, v)
+      go (inr u) v = simp u
 
 module _ (l : List ℕ) {k : ℕ} (e : k ≡ few (length l / 8)) where
   pub few-most : (k ≤ 33) × (k * 8 ≤ length l)
@@ -224,14 +232,15 @@ module _ (kind size s : ℕ) (l list : List ℕ) {k : ℕ} (e : k ≡ few (lengt
           let b = many kind size s (targetsIn l) out (more .1) in
           as-read (record {
             told = v .told ∙ ap codeOf (a ∙ sym b);
-            answered = λ z. never (not (known kind size)) (leb (meshOf kind size .relays) s) (sym b ∙ z);
+            answered = λ z. never (not (known kind size)) (not (kindOf kind .planned)) (leb (meshOf kind size .relays) s) (sym b ∙ z);
             refused = λ why z. v .refused why (a ∙ sym b ∙ z);
           })
         where
-          never : {A : Type 0} (u w : Bool) → refuse u UnknownSize (refuse w SourceOut (some TooMany)) ≡ none → A
-          never true w z = not-both refl z
-          never false true z = not-both refl z
-          never false false z = not-both refl z
+          never : {A : Type 0} (u v w : Bool) → refuse u UnknownSize (refuse v NotServed (refuse w SourceOut (some TooMany))) ≡ none → A
+          never true v w z = not-both refl z
+          never false true w z = not-both refl z
+          never false false true z = not-both refl z
+          never false false false z = not-both refl z
 
 -- bytes that are no multiple of 8
 pub unreadable : (kind size s : ℕ) (l out : List ℕ) {r : ℕ} → length l % 8 ≢ 0 → r ≡ codeOf (some Unreadable) → Planned (planAgainst kind size s l out) kind size s (targetsIn l) out r out

@@ -14,7 +14,7 @@ use Rattle.answers.specs.declared.Refusal.the-variants.{NoRoom}
 use Rattle.paths.specs.Mesh.{Mesh, width}
 use Rattle.paths.specs.Fan.{Fan}
 use Rattle.mesh.specs.Kinds.{Kind, kindOf, meshOf}
-use Rattle.mesh.specs.Says.{pairAgainst, requestFaultsIn}
+use Rattle.mesh.specs.Says.{pairAgainst, plannedFaultsIn}
 use Rattle.sheet.specs.Format.{HEAD, relaysAt}
 use Rattle.sheet_write.specs.Says.{bytes}
 
@@ -58,9 +58,9 @@ abbrev pub most : (m : Mesh) (k : ℕ) → ℕ
 most m k = HEAD + k * (2 + 8 * m .longest)
 
 module _ (kind size s : ℕ) where
-  -- 1 to 7, and 8 where the largest sheet of so many paths would not fit
+  -- 1, 52, 2 to 7, and 8 where the largest sheet of so many paths would not fit
   abbrev pub listFaults : (targets out : List ℕ) → List Fault
-  listFaults targets out = requestFaultsIn (kindOf kind) size s targets (ltb (length out) (most (meshOf kind size) (length targets)))
+  listFaults targets out = plannedFaultsIn (kindOf kind) size s targets (ltb (length out) (most (meshOf kind size) (length targets)))
 
   -- 10 before these: bytes that are no multiple of 8
   abbrev pub planFaults : (bytes out : List ℕ) → List Fault

@@ -48,7 +48,7 @@ fn plan_list(
     requires { ⌜ Roomy (length (now places)) (length (now counts)) ⌝ }
     ensures { λ r. ⌜ Planned (listAgainst (mesh .kind) (mesh .size) source (now (targets .entry)) (now (out .entry))) (mesh .kind) (mesh .size) source (now (targets .entry)) (now (out .entry)) r (now (out .exit)) ⌝ }
 {
-    let checked = mesh::request(mesh, source, targets);
+    let checked = mesh::plan_request(mesh, source, targets);
     if let Checked::Refused(why) = checked {
         return code(why);
     }

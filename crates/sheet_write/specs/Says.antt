@@ -9,7 +9,7 @@ use lib.Dec.{eqb, ltb}
 use lib.ListN.{length, drop}
 use Rattle.scan.specs.Scan.{pick}
 use Rattle.paths.specs.Mesh.{width}
-use Rattle.mesh.specs.Kinds.{kindOf, meshOf}
+use Rattle.mesh.specs.Kinds.{kindOf, meshOf, planned}
 use Rattle.judge.specs.Says.{numberOf, judgeTold}
 use Rattle.sheet.specs.Format.{sheetOf, pathsOf}
 use Rattle.sheet.specs.Says.{flawed, settled, tellWritten, writtenTold}
@@ -30,19 +30,19 @@ module _ (kind size s k : ℕ) (places counts out : List ℕ) where
     pub told : writtenTold r ≡ tellWritten putAgainst (length (bytes kind size s k places counts))
     pub held : out₁ ≡ settled putAgainst (bytes kind size s k places counts ++ drop (length (bytes kind size s k places counts)) out) out
 
+-- what the judge says of a mesh that has sheets: 0 of a fan, 8 where it lacks room, else 35; of another mesh 35
+abbrev pub ruled : (kind size s : ℕ) (targets places counts : List ℕ) → ℕ
+ruled kind size s targets places counts = pick (planned kind size) (numberOf (judgeTold (kindOf kind) size s targets places counts false)) 1
+
 module _ (kind size s : ℕ) (targets places counts out : List ℕ) where
   -- the sheet of the paths
   abbrev pub sheet : List ℕ
   sheet = sheetOf kind size s (pathsOf (width (meshOf kind size)) places counts (length targets))
 
-  -- what the judge says: 0 of a fan, 8 where it lacks room, else 35
-  abbrev pub ruled : ℕ
-  ruled = numberOf (judgeTold (kindOf kind) size s targets places counts false)
-
   abbrev pub writeAgainst : Option Flaw
   writeAgainst =
-      pick (eqb ruled 0) (flawed (ltb (length out) (length sheet)) flaw.NoRoom none)
-      (pick (eqb ruled 8) (some flaw.NoRoom) (some flaw.NotAFan))
+      pick (eqb (ruled kind size s targets places counts) 0) (flawed (ltb (length out) (length sheet)) flaw.NoRoom none)
+      (pick (eqb (ruled kind size s targets places counts) 8) (some flaw.NoRoom) (some flaw.NotAFan))
 
   pub record Wrote (r : Written) (out₁ : List ℕ) : Type 0 where
     pub told : writtenTold r ≡ tellWritten writeAgainst (length sheet)

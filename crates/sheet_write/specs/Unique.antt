@@ -46,7 +46,7 @@ module _ (kind size s : ℕ) (targets places counts out : List ℕ) where
   pub wrote-unique : (a b : Written) (out₁ out₂ : List ℕ) → Wrote kind size s targets places counts out a out₁
       → Wrote kind size s targets places counts out b out₂ → (a ≡ b) × (out₁ ≡ out₂)
   wrote-unique a b out₁ out₂ p q =
-      let n = ruled kind size s targets places counts out in
+      let n = ruled kind size s targets places counts in
       let l = length (sheet kind size s targets places counts out) in (
         written-unique (tellWritten (writeAgainst kind size s targets places counts out) l)
             (against-pathless (eqb n 0) (ltb (length out) l) (eqb n 8) l) a b (p .told) (q .told),
