@@ -3,8 +3,9 @@
  * Link with target/staticlib/libhost.a, which ./build makes. Every function here is proved to return and to leave in the slices what its
  * comment says. None allocates or keeps anything between calls, so they may be called from several threads at once.
  *
- * Meshes. kind 1 is the plain cube, sizes 1 to 32 (its dimensions); kind 2 is the two-level mesh, sizes 1 to 5 (its order). Relays are the numbers below
- * `relays`; each has `links` links; a path has at most `longest` hops and takes W = longest + 1 places (gust_facts tells them). Any numbers may be passed:
+ * Meshes. kind 1 is the plain cube, sizes 1 to 32 (its dimensions); kind 2 is the two-level mesh, sizes 1 to 5 (its order); kind 3 is the metacube, size k * 64 + m for k class
+ * bits, 0 to 3, and parts of m bits, k + m * 2^k at most 37. Kind 3 has facts, links, next hops, routes, the judge of fans and their survivors; the planners, distances and bundles
+ * refuse it with 52, and it has no sheets. Relays are the numbers below `relays`; each has `links` links; a path has at most `longest` hops and takes W = longest + 1 places (gust_facts tells them). Any numbers may be passed:
  * what is no mesh, no relay and so on is refused, as told below.
  *
  * Slices. A slice is a pointer and how many elements it has; the pointer must not be null, even for 0 elements, must be aligned for its type and must be
@@ -32,7 +33,8 @@ extern "C" {
 
 enum {
   GUST_CUBE = 1,
-  GUST_TWO_LEVEL = 2
+  GUST_TWO_LEVEL = 2,
+  GUST_METACUBE = 3
 };
 
 /* What an unused place of a path holds: 2^64 - 1. */
@@ -62,15 +64,17 @@ enum {
   /* Flaws of a sheet: */
   GUST_CUT = 30,             /* fewer than 16 bytes, a wrong length field, or a path that runs out of bytes */
   GUST_VERSION = 31,         /* the version is not 1 */
-  GUST_NO_MESH = 32,         /* no such kind or size */
+  GUST_NO_MESH = 32,         /* no such kind or size, or one that has no sheets */
   GUST_PATHS = 33,           /* no path, or more than a relay has links */
   GUST_HOPS = 34,            /* a path with no hops, or more than the longest has; its path */
-  GUST_NOT_A_FAN = 35,       /* what is to be written fails the judge */
+  GUST_NOT_A_FAN = 35,       /* what is to be written fails the judge, or is of a mesh that has no sheets */
   GUST_LEFT_OVER = 36,       /* bytes are left over */
   GUST_LONE_PATH = 37,       /* a sheet with a single path of a two-level mesh */
   /* Frames that arrive: */
   GUST_FRAME_SEEN = 41,      /* a frame of this number was passed before */
-  GUST_FRAME_OLD = 42        /* the number is neither ahead of the newest nor among the newest 64 */
+  GUST_FRAME_OLD = 42,       /* the number is neither ahead of the newest nor among the newest 64 */
+  /* Kinds of mesh: */
+  GUST_NOT_SERVED = 52       /* the routine does not serve this kind */
 };
 
 /* ---- the region host's two calls. Each returns number * 256 + place, so 0 for success. (Every place told here is below 256.) */
@@ -79,12 +83,14 @@ enum {
  * Bytes of `out` after the eighth stay as they were. Numbers, in this order: 1, 2, 5, and 8 where `out_len` is below 8.
  * The plain route changes the lowest differing bit in a cube. In the two-level mesh, while blocks differ, the slot walks to p, the differing block bit that
  * comes first in the reflected Gray order (i xor (i div 2) for i = 0, 1, 2 and so on), and the block's bit p is changed there; then it walks to the target's
- * slot. A slot walks by its lowest differing bit. No route of order m has more than 2^(m+1) + 2m - 1 hops. */
+ * slot. A slot walks by its lowest differing bit. No route of order m has more than 2^(m+1) + 2m - 1 hops. In a metacube, while some part differs, the lowest differing bit of the
+ * own class's part is changed, and where that part agrees the class becomes the next in the cyclic Gray order; then the class is corrected, lowest bit first. No such route has more
+ * than 2^k - 1 + k hops above the number of differing part bits. */
 uint64_t gust_next_hop(uint64_t kind, uint64_t size, uint64_t source, uint64_t target, uint8_t *out, size_t out_len);
 
 /* Plans a fan from `source` to the targets, numbers of 8 bytes each, big-endian, and writes its sheet (docs/SHEETS.md) at the start of `out`: a path to
  * each target in their order, none longer than the longest, that meet nowhere but at the source. Which fan it is, where there are several, is the
- * library's choice. Bytes of `out` after the sheet stay as they were. Numbers, in this order: 10 where `targets_len` is no multiple of 8; 1, 2, 3, 4, 5, 6, 7;
+ * library's choice. Bytes of `out` after the sheet stay as they were. Numbers, in this order: 10 where `targets_len` is no multiple of 8; 1, 52, 2, 3, 4, 5, 6, 7;
  * 37 for a single target in a two-level mesh; and 8 exactly where `out_len` is below 16 + k * (2 + 8 * longest), though the sheet itself may be shorter. */
 uint64_t gust_plan(uint64_t kind, uint64_t size, uint64_t source, const uint8_t *targets, size_t targets_len, uint8_t *out, size_t out_len);
 
@@ -112,7 +118,7 @@ GustFacts gust_facts(uint64_t kind, uint64_t size);
 /* Whether two relays are linked: value 1 for yes, 0 for no. Numbers, in this order: 1, 2, 5. */
 GustAnswer gust_linked(uint64_t kind, uint64_t size, uint64_t source, uint64_t target);
 
-/* The fewest links between two relays, for the two-level mesh of orders 1 to 3. Numbers, in this order: 1, 9, 2, 5. */
+/* The fewest links between two relays, for the two-level mesh of orders 1 to 3. Numbers, in this order: 1, 52, 9, 2, 5. */
 GustAnswer gust_distance(uint64_t kind, uint64_t size, uint64_t source, uint64_t target);
 
 /* Writes the plain route, both ends included, from place 0 of `out`; the value is its hops. Places after its last relay stay as they were. Numbers, in this
@@ -120,13 +126,13 @@ GustAnswer gust_distance(uint64_t kind, uint64_t size, uint64_t source, uint64_t
 GustAnswer gust_route(uint64_t kind, uint64_t size, uint64_t source, uint64_t target, uint64_t *out, size_t out_len);
 
 /* Plans a fan from `source` to the targets, as gust_plan does, but in numbers: path i to targets[i] in places and counts, as said above; elements beyond the k paths
- * stay as they were. The value is k. Numbers, in this order: 1 to 7, and 8 where there are fewer than k * W places or k counts. */
+ * stay as they were. The value is k. Numbers, in this order: 1, 52, 2 to 7, and 8 where there are fewer than k * W places or k counts. */
 GustAnswer gust_fan(uint64_t kind, uint64_t size, uint64_t source, const uint64_t *targets, size_t targets_len, uint64_t *places, size_t places_len,
                     uint64_t *counts, size_t counts_len);
 
 /* Plans a bundle from `source` to `target`: as many paths as a relay has links, each with at most longest + 1 hops, that share nothing but the two ends. The
  * two may be linked: one path is then the bare link. Elements beyond the paths stay as they were; which bundle it is, where there are several, is the library's
- * choice. The value is how many paths. Numbers, in this order: 1, 2, 5, 6 where the two are equal, and 8 where there are fewer than links * (W + 1)
+ * choice. The value is how many paths. Numbers, in this order: 1, 52, 2, 5, 6 where the two are equal, and 8 where there are fewer than links * (W + 1)
  * places or links counts. A bundle survives the loss of any relays but the two ends, as long as they are fewer than the links. */
 GustAnswer gust_bundle(uint64_t kind, uint64_t size, uint64_t source, uint64_t target, uint64_t *places, size_t places_len, uint64_t *counts,
                        size_t counts_len);
@@ -137,7 +143,7 @@ GustVerdict gust_judge(uint64_t kind, uint64_t size, uint64_t source, const uint
                        const uint64_t *counts, size_t counts_len);
 
 /* Judges whether places and counts hold a bundle from the source to the target: number 0 where they do. What lies beyond its paths is not looked at. Numbers, in this
- * order: 1, 2, 5, 6; 8 as gust_bundle; then the first finding, 20 to 25, of the first path that has one. */
+ * order: 1, 52, 2, 5, 6; 8 as gust_bundle; then the first finding, 20 to 25, of the first path that has one. */
 GustVerdict gust_judge_bundle(uint64_t kind, uint64_t size, uint64_t source, uint64_t target, const uint64_t *places, size_t places_len,
                               const uint64_t *counts, size_t counts_len);
 
@@ -152,14 +158,15 @@ GustAnswer gust_survivors(uint64_t kind, uint64_t size, uint64_t source, const u
                           size_t cuts_len, uint64_t *ends, size_t ends_len, uint64_t *hops, size_t hops_len, uint64_t *wholes, size_t wholes_len);
 
 /* The same of a bundle: ends[i] is the target for every path. With neither end stopped, links - f paths at least are whole, f as above; where an end has stopped none
- * is. Numbers, in this order: 1, 2, 5, 6; 8 as gust_bundle, or where there are fewer than links of ends, hops or wholes; then
+ * is. Numbers, in this order: 1, 52, 2, 5, 6; 8 as gust_bundle, or where there are fewer than links of ends, hops or wholes; then
  * 20 to 25. */
 GustAnswer gust_bundle_survivors(uint64_t kind, uint64_t size, uint64_t source, uint64_t target, const uint64_t *places, size_t places_len,
                                  const uint64_t *counts, size_t counts_len, const uint64_t *stopped, size_t stopped_len, const uint64_t *cuts, size_t cuts_len,
                                  uint64_t *ends, size_t ends_len, uint64_t *hops, size_t hops_len, uint64_t *wholes, size_t wholes_len);
 
 /* Writes the sheet of a fan at the start of `out`; the value is its length in bytes. Bytes after it stay as they were. Numbers: 37 for kind 2 and a single
- * target, whatever else is asked; 35 where the judge tells a number but 8; 8 where it tells 8, or where `out_len` is below the length of the sheet. */
+ * target, whatever else is asked; 35 of a mesh that has no sheets, and where the judge tells a number but 8; 8 where it tells 8, or where `out_len` is below the
+ * length of the sheet. */
 GustAnswer gust_write_sheet(uint64_t kind, uint64_t size, uint64_t source, const uint64_t *targets, size_t targets_len, const uint64_t *places,
                             size_t places_len, const uint64_t *counts, size_t counts_len, uint8_t *out, size_t out_len);
 
@@ -200,6 +207,7 @@ namespace gust {
 enum class Reason : uint64_t {
   kFine = GUST_FINE,
   kUnknownSize = GUST_UNKNOWN_SIZE,
+  kNotServed = GUST_NOT_SERVED,
   kSourceOut = GUST_SOURCE_OUT,
   kNoTarget = GUST_NO_TARGET,
   kTooMany = GUST_TOO_MANY,

@@ -48,7 +48,7 @@ Bundle bundle(const Mesh &mesh, uint64_t s, uint64_t t) { return bundle(mesh, s,
 // gust_fan into so many places and counts.
 void fan(const Mesh &mesh, uint64_t s, const Words &targets, size_t p, size_t c) {
   Lent<uint64_t> to(targets), places(p), counts(c);
-  Told told = mesh.request(s, targets);
+  Told told = mesh.plan_request(s, targets);
   const size_t k = targets.size();
   if (!told.number && (p < k * mesh.width() || c < k)) told.number = 8;
   answered("fan", mesh, s, gust_fan(mesh.kind, mesh.size, s, to.data(), k, places.data(), p, counts.data(), c), told, k);
@@ -179,7 +179,7 @@ void bundles() {
         bundle(mesh, n, n, places, counts);
       }
   }
-  for (Mesh mesh : {Mesh{0, 1}, Mesh{1, 0}, Mesh{1, 33}, Mesh{2, 0}, Mesh{2, 6}, Mesh{3, 1}, Mesh{257, 3}, Mesh{2, uint64_t{1} << 40}}) {
+  for (Mesh mesh : {Mesh{0, 1}, Mesh{1, 0}, Mesh{1, 33}, Mesh{2, 0}, Mesh{2, 6}, Mesh{3, 1}, Mesh{3, 64}, Mesh{4, 1}, Mesh{257, 3}, Mesh{2, uint64_t{1} << 40}}) {
     bundle(mesh, 0, 1, 100, 10);
     bundle(mesh, 0, 0, 0, 0);
     judged({mesh, 0, 1, Words(100, 1), Words(10, 1)}, {}, 40, 40, 40);
@@ -202,6 +202,7 @@ void fans() {
       fan(mesh, s, targets, k * w - 1, k);
       fan(mesh, s, targets, k * w, k - 1);
       fan({mesh.kind, mesh.size + 40}, s, targets, k * w, k);
+      fan({3, mesh.size}, s, targets, k * w, k);
       fan(mesh, mesh.relays(), targets, k * w, k);
       fan(mesh, s, {}, k * w, k);
       fan(mesh, s, Words(mesh.links() + 1, 5), 0, 0);
@@ -269,8 +270,8 @@ int main(int count, char **words) {
   bundles();
   fans();
   if (!small) {
-    const std::set<uint64_t> ends{0, 1, 2, 5, 6, 8}, found{0, 1, 2, 5, 6, 8, 20, 21, 22, 23, 24, 25};
-    all_met({{"bundle", ends}, {"fan", {0, 1, 2, 3, 4, 5, 6, 7, 8}}, {"judge of bundles", found}, {"survivors of bundles", found}});
+    const std::set<uint64_t> ends{0, 1, 2, 5, 6, 8, 52}, found{0, 1, 2, 5, 6, 8, 20, 21, 22, 23, 24, 25, 52};
+    all_met({{"bundle", ends}, {"fan", {0, 1, 2, 3, 4, 5, 6, 7, 8, 52}}, {"judge of bundles", found}, {"survivors of bundles", found}});
     same("the longest of order 1", {2, 1}, 0, worst[{2, 1}], 7);
     same("the longest of the cube of 3", {1, 3}, 0, worst[{1, 3}], 5);
   }

@@ -16,7 +16,7 @@ Bytes bytes_of(const Words &words) {
 
 void facts() {
   Words kinds{0, 1, 2, 3, 4, 257, ~uint64_t{0}}, sizes{64, 65, 255, 256, 257, uint64_t{1} << 32, ~uint64_t{0}};
-  for (uint64_t n = 0; n <= 40; ++n) sizes.push_back(n);
+  for (uint64_t n = 0; n <= 260; ++n) sizes.push_back(n);
   for (uint64_t kind : kinds)
     for (uint64_t size : sizes) {
       const Mesh mesh{kind, size};
@@ -62,7 +62,9 @@ void pair(const Mesh &mesh, uint64_t s, uint64_t t) {
 
 void pairs() {
   const Words far{~uint64_t{0}, uint64_t{1} << 63, uint64_t{1} << 37, uint64_t{1} << 32};
-  for (Mesh mesh : meshes()) {
+  std::vector<Mesh> all = meshes();
+  for (Mesh mesh : metacubes()) all.push_back(mesh);
+  for (Mesh mesh : all) {
     const uint64_t n = mesh.relays();
     if (n <= 64 && !small) {
       for (uint64_t s = 0; s < n; ++s)
@@ -84,7 +86,7 @@ void pairs() {
     pair(mesh, n - 1, n);
     pair(mesh, n, n - 1);
   }
-  for (Mesh mesh : {Mesh{0, 1}, Mesh{1, 0}, Mesh{1, 33}, Mesh{2, 0}, Mesh{2, 6}, Mesh{3, 1}, Mesh{258, 1}, Mesh{~uint64_t{0}, 1}, Mesh{1, ~uint64_t{0}}}) {
+  for (Mesh mesh : {Mesh{0, 1}, Mesh{1, 0}, Mesh{1, 33}, Mesh{2, 0}, Mesh{2, 6}, Mesh{3, 0}, Mesh{3, 38}, Mesh{3, 64}, Mesh{3, 83}, Mesh{3, 197}, Mesh{3, 257}, Mesh{4, 1}, Mesh{258, 1}, Mesh{~uint64_t{0}, 1}, Mesh{1, ~uint64_t{0}}}) {
     pair(mesh, 0, 1);
     pair(mesh, ~uint64_t{0}, 0);
   }
@@ -105,6 +107,8 @@ void distances() {
     }
   }
   answered("distance", {2, 6}, 0, gust_distance(2, 6, ~uint64_t{0}, 0), {1, 0, 0}, 0);
+  for (uint64_t size : {1, 65, 196}) answered("distance", {3, size}, 0, gust_distance(3, size, ~uint64_t{0}, 0), {52, 0, 0}, 0);
+  for (uint64_t size : {0, 64, 197}) answered("distance", {3, size}, 0, gust_distance(3, size, ~uint64_t{0}, 0), {1, 0, 0}, 0);
 }
 
 // ---- requests
@@ -135,7 +139,7 @@ Bytes plan(const Mesh &mesh, uint64_t s, const Bytes &asked, size_t room) {
     told.number = 10;
   } else {
     for (size_t i = 0; i < asked.size(); i += 8) targets.push_back(model::number(asked, i, 8));
-    told = mesh.request(s, targets);
+    told = mesh.plan_request(s, targets);
     if (!told.number && mesh.lone(targets.size())) told.number = 37;
     if (!told.number && room < mesh.most(targets.size())) told.number = 8;
   }
@@ -197,7 +201,7 @@ void plans() {
       plan(mesh, mesh.relays(), bytes_of(many), 0);
     }
   }
-  for (Mesh mesh : {Mesh{0, 1}, Mesh{1, 0}, Mesh{1, 33}, Mesh{2, 6}, Mesh{3, 2}, Mesh{257, 3}, Mesh{2, uint64_t{1} << 40}}) {
+  for (Mesh mesh : {Mesh{0, 1}, Mesh{1, 0}, Mesh{1, 33}, Mesh{2, 6}, Mesh{3, 2}, Mesh{3, 65}, Mesh{3, 196}, Mesh{3, 64}, Mesh{4, 2}, Mesh{257, 3}, Mesh{2, uint64_t{1} << 40}}) {
     plan(mesh, 0, bytes_of({1, 2}), 9999);
     plan(mesh, 0, {}, 0);
     plan(mesh, 0, bytes_of(Words(40, 5)), 10);
@@ -247,9 +251,14 @@ void cases() {
   is("case K", refused(2, 3, 0, {1, 2, 4, 8}) == 0 && refused(2, 3, 0, {1, 2, 4, 8, 16}) == 4 * 256);
   is("case L", refused(2, 1, 7, {0, 1}) == 0 && refused(2, 1, 8, {0, 1}) == 2 * 256 && refused(2, 1, 0, {7, 1}) == 0 && refused(2, 1, 0, {8, 1}) == 5 * 256);
   is("case M", refused(1, 3, 0, {1, 0, 1}) == 6 * 256 + 1);
+  is("metacube: facts", gust_facts(3, 66).relays == 32 && gust_facts(3, 130).longest == 13 && gust_facts(3, 196).links == 7 && gust_facts(3, 196).places == 43 && gust_facts(3, 37).links == 37);
+  is("metacube: links", links(3, 130, 0) == Words{1, 2, 256, 512} && links(3, 130, 256) == Words{0, 260, 264, 768});
+  is("metacube: routes", routed(3, 66, 0, 31) == Words{0, 1, 3, 19, 23, 31} && routed(3, 66, 16, 3) == Words{16, 0, 1, 3} && routed(3, 3, 0, 5) == Words{0, 1, 5});
+  is("metacube: round the cycle", routed(3, 129, 32, 8) == Words{32, 0, 16, 48, 56, 40, 8} && routed(3, 129, 0, 48) == Words{0, 16, 48} && routed(3, 129, 63, 32).size() == 10);
+  is("metacube: not planned", refused(3, 65, 0, {1}) == 13312 && refused(3, 64, 0, {1}) == 256);
 }
 
-// Lone paths: refused as sheets of a two-level mesh, after 10 and 1 to 7 and before 8; cubes keep them, and so does the planner in memory.
+// Lone paths: refused as sheets of a two-level mesh, after 10, 1, 52 and 2 to 7 and before 8; cubes keep them, and so does the planner in memory.
 void lone() {
   const auto is = [](const char *what, bool ok) { held(what, ok, {2, 1}, 0); };
   const auto code = [](uint64_t kind, uint64_t size, uint64_t s, const Bytes &asked, size_t room) {
@@ -309,6 +318,19 @@ Fan fan(const Mesh &mesh, size_t k) {
   return {mesh, s, targets, places, counts};
 }
 
+// A fan of a metacube, which no planner gives: to the first k relays that the source is linked to, or the plain route to one target.
+Fan meta_fan(const Mesh &mesh, size_t k) {
+  const uint64_t s = below(mesh.relays());
+  Fan f{mesh, s, {}, Words(k * mesh.width(), model::kUnused), {}};
+  for (size_t i = 0; i < k; ++i) {
+    const Words way = k == 1 ? mesh.route(s, aims(mesh, s, 1)[0]) : Words{s, mesh.neighbours(s)[i]};
+    std::copy(way.begin(), way.end(), f.places.begin() + i * mesh.width());
+    f.targets.push_back(way.back());
+    f.counts.push_back(way.size() - 1);
+  }
+  return f;
+}
+
 void judged(const Fan &f, const Failed &fails, size_t e, size_t h, size_t w) {
   const Mesh &m = f.mesh;
   const size_t k = f.targets.size();
@@ -342,10 +364,10 @@ void judged(const Fan &f, const Failed &fails, size_t e, size_t h, size_t w) {
       held("survivors: the clause", k <= a.value + fails.count(m), m, f.source);
   }
 
-  const Bytes sheet = told.number ? Bytes{} : model::sheet(m, f.source, k, f.places, f.counts);
+  const Bytes sheet = told.number || !m.planned() ? Bytes{} : model::sheet(m, f.source, k, f.places, f.counts);
   for (size_t room : {sheet.size(), sheet.size() + 5, sheet.size() ? sheet.size() - 1 : 0, size_t{0}}) {
     Lent<uint8_t> out(room);
-    uint64_t number = told.number == 0 || told.number == 8 ? told.number : 35;
+    uint64_t number = m.planned() && (told.number == 0 || told.number == 8) ? told.number : 35;
     if (!number && room < sheet.size()) number = 8;
     if (m.lone(k)) number = 37;
     answered("writer", m, f.source,
@@ -358,10 +380,12 @@ void judged(const Fan &f, const Failed &fails, size_t e, size_t h, size_t w) {
 }
 
 void fans() {
-  for (Mesh mesh : meshes())
+  std::vector<Mesh> all = meshes();
+  for (Mesh mesh : metacubes()) all.push_back(mesh);
+  for (Mesh mesh : all)
     for (int i = 0; i < (small ? 1 : 20); ++i) {
       const size_t k = paths_of(mesh);
-      const Fan good = fan(mesh, k);
+      const Fan good = mesh.planned() ? fan(mesh, k) : meta_fan(mesh, k);
       const Failed fails = failed(mesh, good.places, good.counts, mesh.width());
       judged(good, fails, k, k, k);
       judged(good, {{}, fails.cuts}, k, k, k);
@@ -497,8 +521,8 @@ int main(int count, char **words) {
              {"linked", pair},
              {"next hop", routed},
              {"route", routed},
-             {"distance", {0, 1, 2, 5, 9}},
-             {"plan", {0, 1, 2, 3, 4, 5, 6, 7, 8, 10, 37}},
+             {"distance", {0, 1, 2, 5, 9, 52}},
+             {"plan", {0, 1, 2, 3, 4, 5, 6, 7, 8, 10, 37, 52}},
              {"judge", found},
              {"survivors", found},
              {"writer", {0, 8, 35, 37}},

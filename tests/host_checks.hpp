@@ -108,6 +108,13 @@ inline std::vector<Mesh> meshes() {
   return all;
 }
 
+// Metacubes: small ones, and the largest of each number of class bits.
+inline std::vector<Mesh> metacubes() {
+  std::vector<Mesh> all;
+  for (uint64_t size : {1, 3, 5, 65, 66, 129, 130, 193, 37, 82, 136, 196}) all.push_back({3, size});
+  return all;
+}
+
 // What a call gave back, beside what it should.
 inline void answered(const char *what, const Mesh &mesh, uint64_t s, const GustAnswer &a, const Told &told, uint64_t value) {
   numbered(what, mesh, s, a.number, told.number);

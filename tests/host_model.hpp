@@ -26,11 +26,28 @@ struct Told {
 struct Mesh {
   uint64_t kind, size;
 
-  bool known() const { return (kind == 1 && size >= 1 && size <= 32) || (kind == 2 && size >= 1 && size <= 5); }
+  bool known() const {
+    if (kind == 3) return class_bits() <= 3 && part_bits() >= 1 && class_bits() + span() <= 37;
+    return (kind == 1 && size >= 1 && size <= 32) || (kind == 2 && size >= 1 && size <= 5);
+  }
+  // Whether the planners, distance and sheets serve it.
+  bool planned() const { return known() && kind != 3; }
+  // Of a metacube: k, m, and the bits of all parts.
+  uint64_t class_bits() const { return size / 64; }
+  uint64_t part_bits() const { return size % 64; }
+  uint64_t classes() const { return uint64_t{1} << class_bits(); }
+  uint64_t span() const { return part_bits() * classes(); }
+  uint64_t part(uint64_t u, uint64_t c) const { return (u >> (part_bits() * c)) % (uint64_t{1} << part_bits()); }
   uint64_t slots() const { return uint64_t{1} << size; }
-  uint64_t relays() const { return kind == 1 ? uint64_t{1} << size : uint64_t{1} << (slots() + size); }
-  uint64_t links() const { return kind == 1 ? size : size + 1; }
-  uint64_t longest() const { return kind == 1 ? size + 1 : size * slots() + slots() + 2 * size + 4; }
+  uint64_t relays() const {
+    if (kind == 3) return uint64_t{1} << (class_bits() + span());
+    return kind == 1 ? uint64_t{1} << size : uint64_t{1} << (slots() + size);
+  }
+  uint64_t links() const { return kind == 3 ? class_bits() + part_bits() : kind == 1 ? size : size + 1; }
+  uint64_t longest() const {
+    if (kind == 3) return classes() - 1 + class_bits() + span();
+    return kind == 1 ? size + 1 : size * slots() + slots() + 2 * size + 4;
+  }
   uint64_t width() const { return longest() + 1; }
   uint64_t block(uint64_t u) const { return u / slots(); }
   uint64_t slot(uint64_t u) const { return u % slots(); }
@@ -40,6 +57,10 @@ struct Mesh {
     Words all;
     if (kind == 1) {
       for (uint64_t b = 0; b < size; ++b) all.push_back(u ^ (uint64_t{1} << b));
+    } else if (kind == 3) {
+      const uint64_t c = u >> span();
+      for (uint64_t b = 0; b < part_bits(); ++b) all.push_back(u ^ (uint64_t{1} << (part_bits() * c + b)));
+      for (uint64_t b = 0; b < class_bits(); ++b) all.push_back(u ^ (uint64_t{1} << (span() + b)));
     } else {
       for (uint64_t b = 0; b < size; ++b) all.push_back(block(u) * slots() + (slot(u) ^ (uint64_t{1} << b)));
       all.push_back((block(u) ^ (uint64_t{1} << slot(u))) * slots() + slot(u));
@@ -60,6 +81,7 @@ struct Mesh {
   uint64_t next(uint64_t u, uint64_t t) const {
     if (u == t) return u;
     if (kind == 1) return u ^ lowest(u ^ t);
+    if (kind == 3) return next_class(u, t);
     const uint64_t apart = block(u) ^ block(t);
     if (apart == 0) return u ^ lowest(slot(u) ^ slot(t));
     uint64_t i = 0;
@@ -67,6 +89,16 @@ struct Mesh {
     const uint64_t p = gray(i);
     if (slot(u) != p) return u ^ lowest(slot(u) ^ p);
     return (block(u) ^ (uint64_t{1} << p)) * slots() + slot(u);
+  }
+
+  // The next hop in a metacube.
+  uint64_t next_class(uint64_t u, uint64_t t) const {
+    const uint64_t c = u >> span(), all = uint64_t{1} << span();
+    if (u % all == t % all) return u ^ (lowest(c ^ (t >> span())) << span());
+    if (part(u, c) != part(t, c)) return u ^ (lowest(part(u, c) ^ part(t, c)) << (part_bits() * c));
+    uint64_t i = 0;
+    while (gray(i) != c) ++i;
+    return u % all + (gray((i + 1) % classes()) << span());
   }
 
   Words route(uint64_t s, uint64_t t) const {
@@ -93,9 +125,10 @@ struct Mesh {
     return far;
   }
 
-  // 1, 9, 2, 5 of a source and a target.
+  // 1, 52, 9, 2, 5 of a source and a target.
   uint64_t pair(uint64_t s, uint64_t t, bool distance) const {
     if (!known()) return 1;
+    if (distance && kind == 3) return 52;
     if (distance && (kind == 1 || size > 3)) return 9;
     if (s >= relays()) return 2;
     if (t >= relays()) return 5;
@@ -118,8 +151,14 @@ struct Mesh {
     return {};
   }
 
-  // 1, 2, 5, 6 of the two ends of a bundle.
+  // 1, 52, 2 to 7 of a plan.
+  Told plan_request(uint64_t s, const Words &targets) const {
+    return known() && !planned() ? Told{52, 0, 0} : request(s, targets);
+  }
+
+  // 1, 52, 2, 5, 6 of the two ends of a bundle.
   Told ends(uint64_t s, uint64_t t) const {
+    if (known() && !planned()) return {52, 0, 0};
     if (const uint64_t number = pair(s, t, false)) return {number, 0, 0};
     return {s == t ? uint64_t{6} : 0, 0, 0};
   }
@@ -263,7 +302,7 @@ inline Reading read(const Bytes &bytes, size_t places, size_t counts, size_t tar
   if (bytes.size() < 16 || number(bytes, 0, 4) != bytes.size() - 4) return flaw(30);
   if (bytes[4] != 1) return flaw(31);
   r.mesh = {bytes[5], bytes[6]};
-  if (!r.mesh.known()) return flaw(32);
+  if (!r.mesh.planned()) return flaw(32);
   r.k = bytes[7];
   if (r.k == 0 || r.k > r.mesh.links()) return flaw(33);
   if (r.mesh.lone(r.k)) return flaw(37);

@@ -162,14 +162,16 @@ def fan(kind, size, s, targets):
 
 SMALL = [(1, 3, 0, [7, 1, 6]), (2, 1, 0, [4, 6]), (2, 1, 5, [1])]
 FANS = SMALL + [(1, 1, 1, [0]), (1, 2, 0, [3, 1]), (1, 4, 9, [6, 8, 15, 0]), (2, 1, 0, [5, 1]), (2, 2, 27, [0, 63, 26])]
+# metacubes are judged, and have no sheets
+METAS = [(3, 65, 0, [1, 4]), (3, 66, 5, [0, 31, 21]), (3, 129, 32, [8, 0, 63])]
 
 
 def refusals():
     """Each reason alone and before those that come after it, at each place it can tell."""
-    for kind, size in ((0, 1), (1, 0), (1, 33), (2, 0), (2, 6), (3, 1), (WORD, WORD)):
+    for kind, size in ((0, 1), (1, 0), (1, 33), (2, 0), (2, 6), (3, 64), (3, 197), (4, 1), (WORD, WORD)):
         yield kind, size, 0, [1], [], [], [], (1, 1, 1)
         yield kind, size, WORD, [], [], [], [], (0, 0, 0)
-    for kind, size, s, targets in ((1, 3, 0, [7, 1, 6]), (2, 1, 0, [4, 6])):
+    for kind, size, s, targets in ((1, 3, 0, [7, 1, 6]), (2, 1, 0, [4, 6]), (3, 66, 5, [0, 31, 21])):
         mesh = mesh_of(kind, size)
         places, counts = fan(kind, size, s, targets)
         k, out = len(targets), mesh.relays
@@ -209,7 +211,7 @@ def refusals():
 
 def stops():
     """Fans whole and with relays stopped, and slices longer than they need be."""
-    for kind, size, s, targets in FANS:
+    for kind, size, s, targets in FANS + METAS:
         places, counts = fan(kind, size, s, targets)
         k, mesh = len(targets), mesh_of(kind, size)
         middle = sorted({x for x in places if x != FILLER and x != s and x not in targets})
@@ -224,7 +226,7 @@ def stops():
 
 def damage():
     """Each finding at each place of each path."""
-    for kind, size, s, targets in SMALL:
+    for kind, size, s, targets in SMALL + METAS[:1]:
         mesh = mesh_of(kind, size)
         places, counts = fan(kind, size, s, targets)
         k, width = len(targets), mesh.longest + 1
@@ -261,7 +263,7 @@ def damage():
 
 def large():
     """The largest meshes: as many paths as links, and the longest plain route."""
-    for kind, size in ((1, 32), (2, 5)):
+    for kind, size in ((1, 32), (2, 5), (3, 37), (3, 196)):
         mesh = mesh_of(kind, size)
         near = [v for v in (2**i for i in range(37)) if v < mesh.relays and mesh.linked(0, v)]
         k = len(near)
@@ -279,7 +281,8 @@ def large():
 def routes():
     """Plain routes, each a fan of one: short and long in cubes, the most hops in each order; and a fan whose path of 6 hops ends at distance 2."""
     for kind, size, s, t in (
-        (1, 1, 1, 0), (1, 8, 0, 255), (1, 32, 2**32 - 1, 0), (2, 1, 1, 6), (2, 2, 3, 61), (2, 2, 23, 0), (2, 3, 7, 2043), (2, 4, 15, 1048567), (2, 5, 31, 137438953455)
+        (1, 1, 1, 0), (1, 8, 0, 255), (1, 32, 2**32 - 1, 0), (2, 1, 1, 6), (2, 2, 3, 61), (2, 2, 23, 0), (2, 3, 7, 2043), (2, 4, 15, 1048567), (2, 5, 31, 137438953455),
+        (3, 65, 5, 2), (3, 129, 63, 32), (3, 193, 0, 1152), (3, 196, 0, 2**35 - 1)
     ):
         mesh = mesh_of(kind, size)
         yield kind, size, s, [t], *laid(mesh, [mesh.route(s, t)]), [], (1, 1, 1)
@@ -289,7 +292,7 @@ def routes():
 def severed():
     """Fans with links cut: each of a path's links, at its source too, in either order, again, with others; pairs that are no link, and lists with a last
     number that has no partner. Then cuts where something is found or there is no room."""
-    for kind, size, s, targets in FANS:
+    for kind, size, s, targets in FANS + METAS[:2]:
         places, counts = fan(kind, size, s, targets)
         k, mesh = len(targets), mesh_of(kind, size)
         width = mesh.longest + 1

@@ -1,10 +1,13 @@
 #!/usr/bin/env python3
-"""The meshes of both kinds, from the specification's rules alone; and the pairs that crates/mesh_cases is asked of.
+"""The meshes of three kinds, from the specification's rules alone; and the pairs that crates/mesh_cases is asked of.
 
-The cube is cube_model.py's and the two-level mesh two_model.py's: neither shares anything with the code.
+The cube is cube_model.py's, the two-level mesh two_model.py's and the metacube meta_model.py's: none shares anything with the code.
 """
 
+import random
+
 import cube_model
+import meta_model
 import two_model
 
 WORD = 2**64 - 1
@@ -14,7 +17,7 @@ UNTOUCHED = 77
 class Cube:
     def __init__(self, n):
         self.relays, self.links, self.longest = 2**n, n, n + 1
-        self.distances = False
+        self.distances, self.planned = False, True
 
     def linked(self, u, v):
         return cube_model.linked(u, v)
@@ -27,7 +30,7 @@ class Two:
     def __init__(self, m):
         self.m = m
         self.relays, self.links, self.longest = 2 ** (2**m + m), m + 1, m * 2**m + 2**m + 2 * m + 4
-        self.distances = m <= 3
+        self.distances, self.planned = m <= 3, True
 
     def linked(self, u, v):
         return two_model.linked(two_model.relay(self.m, u), two_model.relay(self.m, v))
@@ -46,13 +49,17 @@ def mesh_of(kind, size):
         return Cube(size)
     if kind == 2 and 1 <= size <= 5:
         return Two(size)
+    if kind == 3 and meta_model.known(size):
+        return meta_model.Meta(size)
     return None
 
 
 def refusal(mesh, s, t, distance=False):
-    """The number of the first reason against a pair, or 0: 1, 9, 2, 5."""
+    """The number of the first reason against a pair, or 0: 1, 52, 9, 2, 5."""
     if mesh is None:
         return 1
+    if distance and not mesh.planned:
+        return 52
     if distance and not mesh.distances:
         return 9
     if s >= mesh.relays:
@@ -95,7 +102,7 @@ def pair(kind, size, s, t, room):
 def cases():
     """kind, size, source, target, places for the route."""
     # J, and sizes at both ends of each kind; kinds that there are not
-    for kind, sizes in ((1, (0, 1, 2, 32, 33, WORD)), (2, (0, 1, 2, 3, 4, 5, 6, WORD)), (0, (1,)), (3, (1, 65)), (WORD, (1,))):
+    for kind, sizes in ((1, (0, 1, 2, 32, 33, WORD)), (2, (0, 1, 2, 3, 4, 5, 6, WORD)), (0, (1,)), (3, (0, 1, 37, 38, 64, 65, 82, 83, 128, 130, 136, 137, 192, 193, 196, 197, 256, 257, WORD)), (4, (1, 65)), (WORD, (1,))):
         for size in sizes:
             mesh = mesh_of(kind, size)
             last = mesh.relays - 1 if mesh else 1
@@ -123,3 +130,20 @@ def cases():
         yield 2, 3, 0, t, 22
     for s in (2040, 2043, 2045, 2046):
         yield 2, 3, s, 0, 22
+    # metacubes: the facts of every size; links of two relays; routes that go round the cycle and that only correct the class; long ones of the largest sizes
+    for size in meta_model.sizes():
+        yield 3, size, 0, 1, 2
+    for t in (1, 2, 4, 256, 512):
+        yield 3, 130, 0, t, 14
+    for t in (0, 257, 260, 264, 768):
+        yield 3, 130, 256, t, 14
+    for size, s, t in ((66, 0, 31), (66, 16, 3), (129, 0, 63), (129, 32, 8), (129, 0, 48), (129, 63, 32), (3, 0, 5), (193, 0, 1152)):
+        yield 3, size, s, t, 12
+    for s in range(8):
+        for t in range(8):
+            yield 3, 65, s, t, 5
+    rng = random.Random(14)
+    for size in (37, 82, 136, 196):
+        mesh = meta_model.Meta(size)
+        for _ in range(6):
+            yield 3, size, rng.randrange(mesh.relays), rng.randrange(mesh.relays), mesh.longest + 1

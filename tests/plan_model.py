@@ -4,7 +4,8 @@ slices untouched, each fan relay by relay, by the judge of judge_model.py.
 """
 import random
 
-from judge_model import FILLER, finding, request
+from judge_model import FILLER, finding
+from judge_model import request as judged_request
 from mesh_model import WORD, mesh_of
 
 PLACES, COUNTS = 1300, 40
@@ -15,6 +16,11 @@ ONLY = {
     (2, 1, 0, (4, 6)): ["3 0 1 5 4", "4 0 2 3 7 6"],
     (1, 2, 0, (3, 1)): ["2 0 2 3", "1 0 1"],
 }
+
+
+def request(mesh, source, targets):
+    """Number and place of the first reason of 1, 52, 2 to 7, or None."""
+    return (52, 0) if mesh and not mesh.planned else judged_request(mesh, source, targets)
 
 
 def enough(kind, size, k):
@@ -51,8 +57,8 @@ def granted():
 
 def refused():
     """kind, size, source, targets: each reason alone, and beside those that come after it."""
-    # 1: J, and kinds that there are not
-    for kind, size in ((0, 1), (3, 1), (WORD, 1), (1, 0), (1, 33), (1, WORD), (2, 0), (2, 6), (2, WORD)):
+    # 1: J, and kinds that there are not; 52: a metacube, and 1 where there is none of its size
+    for kind, size in ((0, 1), (3, 1), (3, 65), (3, 196), (3, 64), (3, 197), (4, 1), (WORD, 1), (1, 0), (1, 33), (1, WORD), (2, 0), (2, 6), (2, WORD)):
         yield kind, size, 0, [1]
         yield kind, size, WORD, []
     for m in range(1, 6):

@@ -42,7 +42,8 @@ def write(kind, size, s, targets, places, counts, out):
     """Number, length of the sheet, and the lent bytes afterwards."""
     if lone(kind, len(targets)):
         return 37, 0, out
-    told = judge(kind, size, s, targets, places, counts)[0]
+    mesh = mesh_of(kind, size)
+    told = judge(kind, size, s, targets, places, counts)[0] if mesh and mesh.planned else 1
     if told:
         return 8 if told == 8 else 35, 0, out
     width = mesh_of(kind, size).longest + 1
@@ -81,7 +82,7 @@ def read(data, places, counts, targets):
     if version != 1:
         return refused(31)
     mesh = mesh_of(kind, size)
-    if mesh is None:
+    if mesh is None or not mesh.planned:
         return refused(32)
     if not 1 <= k <= mesh.links:
         return refused(33)
@@ -163,6 +164,7 @@ def writer_cases(some):
         yield kind, size, s, [s] + targets[1:], places, counts, n
         yield kind, size, mesh_of(kind, size).relays, targets, places, counts, n
         yield 3, size, s, targets, places, counts, n
+        yield 4, size, s, targets, places, counts, n
         # one target: 37 in a two-level mesh, and in a cube what the judge says
         yield kind, size, s, targets[:1], places, counts, n
         # a request that is wrong comes before room that is wanting

@@ -9,7 +9,7 @@ use lib.Dec.{eqb, leb}
 use Rattle.scan.specs.Scan.{pick}
 use Rattle.answers.specs.Told.{number, place, Told, told, tell, answerTold, yesNoTold, checkedTold, against}
 use Rattle.answers.specs.declared.Refusal.{Refusal}
-use Rattle.answers.specs.declared.Refusal.the-variants.{Unreadable, UnknownSize, NoDistance, SourceOut, NoTarget, TooMany, TargetOut, TargetIsSource, TargetAgain, BadDoors, NoRoom}
+use Rattle.answers.specs.declared.Refusal.the-variants.{Unreadable, UnknownSize, NotServed, NoDistance, SourceOut, NoTarget, TooMany, TargetOut, TargetIsSource, TargetAgain, BadDoors, NoRoom}
 use Rattle.answers.specs.declared.Answer.{Answer}
 use Rattle.answers.specs.declared.Answer.the-variants as answer
 use Rattle.answers.specs.declared.Checked.{Checked}
@@ -26,6 +26,7 @@ pub refusal : ℕ → ℕ → Refusal
 refusal n p =
     pick (eqb n 10) Unreadable
     (pick (eqb n 1) UnknownSize
+    (pick (eqb n 52) NotServed
     (pick (eqb n 9) NoDistance
     (pick (eqb n 2) SourceOut
     (pick (eqb n 3) NoTarget
@@ -33,12 +34,13 @@ refusal n p =
     (pick (eqb n 5) (TargetOut p)
     (pick (eqb n 6) (TargetIsSource p)
     (pick (eqb n 7) (TargetAgain p)
-    (pick (eqb n 11) BadDoors NoRoom)))))))))
+    (pick (eqb n 11) BadDoors NoRoom))))))))))
 
 pub refusal-back : (why : Refusal) → refusal (number why) (place why) ≡ why
 unfolding refusal
 refusal-back Unreadable = refl
 refusal-back UnknownSize = refl
+refusal-back NotServed = refl
 refusal-back NoDistance = refl
 refusal-back SourceOut = refl
 refusal-back NoTarget = refl
@@ -54,6 +56,7 @@ pub number-apart : (why : Refusal) → (eqb (number why) 0 ≡ false) × (isFind
 unfolding isFinding
 number-apart Unreadable = (refl, refl)
 number-apart UnknownSize = (refl, refl)
+number-apart NotServed = (refl, refl)
 number-apart NoDistance = (refl, refl)
 number-apart SourceOut = (refl, refl)
 number-apart NoTarget = (refl, refl)
@@ -68,6 +71,7 @@ number-apart NoRoom = (refl, refl)
 pub number-few : (why : Refusal) → number why < 100
 number-few Unreadable = omega arith
 number-few UnknownSize = omega arith
+number-few NotServed = omega arith
 number-few NoDistance = omega arith
 number-few SourceOut = omega arith
 number-few NoTarget = omega arith

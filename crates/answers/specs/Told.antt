@@ -5,7 +5,7 @@ use mathlib.Core.Bool.{Bool, true, false}
 use mathlib.Core.List.{List}
 use mathlib.Core.Option.{Option, none, some}
 use Rattle.answers.specs.declared.Refusal.{Refusal}
-use Rattle.answers.specs.declared.Refusal.the-variants.{Unreadable, UnknownSize, NoDistance, SourceOut, NoTarget, TooMany, TargetOut, TargetIsSource, TargetAgain, BadDoors, NoRoom}
+use Rattle.answers.specs.declared.Refusal.the-variants.{Unreadable, UnknownSize, NotServed, NoDistance, SourceOut, NoTarget, TooMany, TargetOut, TargetIsSource, TargetAgain, BadDoors, NoRoom}
 use Rattle.answers.specs.declared.Answer.{Answer}
 use Rattle.answers.specs.declared.Answer.the-variants as answer
 use Rattle.answers.specs.declared.Checked.{Checked}
@@ -17,6 +17,7 @@ use Rattle.answers.specs.declared.YesNo.the-variants as yesno
 abbrev pub number : Refusal → ℕ
 number Unreadable = 10
 number UnknownSize = 1
+number NotServed = 52
 number NoDistance = 9
 number SourceOut = 2
 number NoTarget = 3
@@ -31,6 +32,7 @@ number NoRoom = 8
 abbrev pub place : Refusal → ℕ
 place Unreadable = 0
 place UnknownSize = 0
+place NotServed = 0
 place NoDistance = 0
 place SourceOut = 0
 place NoTarget = 0

@@ -8,6 +8,8 @@ pub enum Refusal {
     Unreadable,
     // 1: a kind or size that is not known.
     UnknownSize,
+    // 52: a kind of mesh that the routine does not serve.
+    NotServed,
     // 9: a distance asked of a mesh that does not answer it.
     NoDistance,
     // 2: the source is no relay of the mesh.
@@ -55,6 +57,7 @@ impl Refusal {
         match self {
             Refusal::Unreadable => 10,
             Refusal::UnknownSize => 1,
+            Refusal::NotServed => 52,
             Refusal::NoDistance => 9,
             Refusal::SourceOut => 2,
             Refusal::NoTarget => 3,
@@ -74,6 +77,7 @@ impl Refusal {
         match self {
             Refusal::Unreadable => 0,
             Refusal::UnknownSize => 0,
+            Refusal::NotServed => 0,
             Refusal::NoDistance => 0,
             Refusal::SourceOut => 0,
             Refusal::NoTarget => 0,

@@ -1,7 +1,7 @@
 -- The ends of the fan that a bundle is made of, chosen one by one (`Chosen`): a request for them is one that nothing stands against (`ends-clear`). Assumes nothing.
 use Prim.Native.Nat.{ℕ, _+_, _≤_, _<_}
-use mathlib.Core.Path.{_≡_, sym, ap, _∙_, subst}
-use mathlib.Core.Bool.{Bool, true, false}
+use mathlib.Core.Path.{_≡_, refl, sym, ap, _∙_, subst}
+use mathlib.Core.Bool.{false}
 use mathlib.Core.Logic.{_≢_}
 use mathlib.Core.List.{List}
 use mathlib.Core.Option.{none}
@@ -10,15 +10,14 @@ use native.Mathlib.Decide.{ℕ-discrete}
 use lib.ListN.{length, getD, set, take}
 use lib.Seq.{getD-set-same, getD-set-other, getD-take, length-take-le}
 use Rattle.answers.specs.Order.{first, requestFaults}
-use Rattle.answers.specs.Pairs.{size-known}
 use Rattle.paths.specs.Mesh.{Mesh}
 use Rattle.paths.specs.Links.{Links}
 use Rattle.paths.specs.Bundle.{endOf, end-other, end-below, end-differ}
 use Rattle.requests.specs.Sound.{Sound, sound-clear}
 use Rattle.mesh.specs.Kinds.{Kind, kindOf, meshOf}
-use Rattle.mesh.specs.Laws.{known-near}
+use Rattle.mesh.specs.Laws.{known-near, known-planned, served-fine}
 use Rattle.mesh.specs.Limits.{known-linked}
-use Rattle.mesh.specs.Says.{requestAgainst}
+use Rattle.mesh.specs.Says.{plannedAgainst}
 use Rattle.mesh.specs.Requests.{Ends}
 
 -- the first k numbers are the ends of the paths that come by the first k links of t
@@ -73,10 +72,7 @@ module _ (kind n s t k : ℕ) (e : Ends (kindOf kind) n s t) (links : k ≡ mesh
         (sym (ends-each i (below i h)) ∙ z ∙ ends-each j (below j g)));
   }
 
-  pub ends-clear : requestAgainst (kindOf kind) n s (take k l) false ≡ none
+  pub ends-clear : plannedAgainst (kindOf kind) n s (take k l) false ≡ none
   ends-clear =
-      sym (size-known (requestFaults (m .relays) (m .links) s (take k l)) (sym (e .known)) refl-true)
+      sym (served-fine kind n (requestFaults (m .relays) (m .links) s (take k l)) (sym (known-planned kind n (e .known) (e .planned))) refl)
       ∙ sound-clear (m .relays) (m .links) s (take k l) sound
-    where
-      refl-true : _≡_ {A = Bool} true true
-      refl-true = mathlib.Core.Path.refl

@@ -7,6 +7,7 @@ use mathlib.Core.List.{List}
 use Rattle.answers.specs.Order.{Fault, inOrder}
 use Rattle.cube.specs.Says as cube
 use Rattle.two.specs.Says as two
+use Rattle.meta.specs.Says as meta
 use Rattle.two_distance.specs.Says as far
 use Rattle.mesh.specs.Kinds.{Kind}
 use Rattle.mesh.specs.Says as mesh
@@ -23,12 +24,14 @@ pub record Orders : Type 0 where
   pub facts : (K : Kind) (n : ℕ) → Ordered (mesh.sizeFaultsIn K n)
   pub pairs : (K : Kind) (n s t : ℕ) (room : Bool) → Ordered (mesh.pairFaultsIn K n s t room)
   pub distance : (K : Kind) (n s t : ℕ) → Ordered (mesh.distanceFaultsIn K n s t)
-  -- the same of the cube and of the two-level mesh alone
+  -- the same of the cube, of the two-level mesh and of metacubes alone
   pub cube-pairs : (n s t : ℕ) (room : Bool) → Ordered (cube.pairFaultsIn n s t room)
   pub two-pairs : (m s t : ℕ) (room : Bool) → Ordered (two.pairFaultsIn m s t room)
+  pub meta-pairs : (n s t : ℕ) (room : Bool) → Ordered (meta.pairFaultsIn n s t room)
   pub two-distance : (m s t : ℕ) → Ordered (far.distanceFaultsIn m s t)
-  -- planner, judge and survivors, of fans and of bundles; the cube's planner, and through doors
+  -- judge and survivors of fans; the planner; bundles; the cube's planner, and through doors
   pub requests : (K : Kind) (n s : ℕ) (targets : List ℕ) (room : Bool) → Ordered (mesh.requestFaultsIn K n s targets room)
+  pub plans : (K : Kind) (n s : ℕ) (targets : List ℕ) (room : Bool) → Ordered (mesh.plannedFaultsIn K n s targets room)
   pub bundles : (K : Kind) (n s t : ℕ) (room : Bool) → Ordered (mesh.bundleFaultsIn K n s t room)
   pub cube-plan : (n s : ℕ) (targets places counts : List ℕ) → Ordered (doors.planFaults n s targets places counts)
   pub through : (n s d : ℕ) (targets places counts : List ℕ) → Ordered (doors.throughFaults n s d targets places counts)
@@ -43,8 +46,10 @@ orders = record {
   distance = λ K n s t. refl;
   cube-pairs = λ n s t room. refl;
   two-pairs = λ m s t room. refl;
+  meta-pairs = λ n s t room. refl;
   two-distance = λ m s t. refl;
   requests = λ K n s targets room. refl;
+  plans = λ K n s targets room. refl;
   bundles = λ K n s t room. refl;
   cube-plan = λ n s targets places counts. refl;
   through = λ n s d targets places counts. refl;

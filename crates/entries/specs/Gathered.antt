@@ -6,7 +6,7 @@ use lib.Dec.{eqb, ltb}
 use lib.ListN.{length, drop, getD}
 use Rattle.scan.specs.Scan.{pick}
 use Rattle.paths.specs.Whole.{Failed}
-use Rattle.mesh.specs.Limits.{mostLinks}
+use Rattle.mesh.specs.Limits.{anyLinks}
 use Rattle.judge.specs.Says.{Asked}
 use Rattle.survivors.specs.Tally.{tallyTold}
 use Rattle.survivors.specs.declared.Tally.{Tally}
@@ -17,7 +17,7 @@ use Rattle.entries.specs.declared.gathered.Gathered.{Gathered}
 
 -- the most entries: no relay has more links
 abbrev pub MOST : ℕ
-MOST = mostLinks
+MOST = anyLinks
 
 -- as many as there is room for, up to the most
 unfoldable pub capped : ℕ → ℕ

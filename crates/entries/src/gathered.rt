@@ -10,7 +10,7 @@ use mesh::Mesh;
 use survivors::Tally;
 
 // The most entries: no relay has more links.
-const MOST: usize = mesh::MOST_LINKS;
+const MOST: usize = mesh::ANY_LINKS;
 
 // What comes back, how many entries there are to write (none of a refusal or a finding), and their columns.
 pub struct Gathered {

@@ -5,7 +5,7 @@ use mathlib.Core.Path.{_≡_, refl, ap, _∙_}
 use mathlib.Core.Bool.{Bool, true, false, not}
 use mathlib.Core.List.{List, _++_}
 use mathlib.Core.Option.{Option}
-use Rattle.answers.specs.Order.{Fault, first, sizeFaults, endFaults, roomFaults}
+use Rattle.answers.specs.Order.{Fault, first, sizeFaults, servedFaults, endFaults, roomFaults}
 use Rattle.answers.specs.Told.{Told, tell, valueOf, against}
 use Rattle.answers.specs.declared.Refusal.{Refusal}
 use Rattle.answers.specs.declared.Checked.{Checked}
@@ -35,7 +35,7 @@ module _ (K : Kind) (n s t : ℕ) (room : Bool) where
   bundle-in {c = c} {v = v} p z e = record {
     told =
         e ∙ ap (λ (o : Option Refusal). answerIn (tell o 0 v)) (planned-against p) ∙ ap (λ (x : ℕ). answerIn (tell (bundleAgainst K n s t room) 0 x)) z
-        ∙ ap answerIn (links-told (K .known n) (endFaults (K .mesh n .relays) s t ++ roomFaults room));
+        ∙ ap answerIn (links-told (K .known n) (servedFaults (not (K .planned)) ++ endFaults (K .mesh n .relays) s t ++ roomFaults room));
     answer = c;
     left = p;
   }

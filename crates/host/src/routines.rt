@@ -3,7 +3,7 @@ ghost use mathlib.Core.Path.{_≡_};
 ghost use mathlib.Core.Bool.{false};
 ghost use lib.ListN.{length};
 ghost use Rattle.mesh.specs.Kinds.{kindOf, meshOf};
-ghost use Rattle.mesh.specs.Says.{linkedTold, distanceTold, routeTold, routeLeaves, requestAgainst, short, bundleAgainst, bundleShort};
+ghost use Rattle.mesh.specs.Says.{linkedTold, distanceTold, routeTold, routeLeaves, plannedAgainst, short, bundleAgainst, bundleShort};
 ghost use Rattle.paths.specs.Mesh.{width};
 ghost use Rattle.paths.specs.Fan.{Fan};
 ghost use Rattle.paths.specs.Bundles.{longer, Bundle};
@@ -91,7 +91,7 @@ pub extern "C" fn gust_fan(
     places: &mut [u64],
     counts: &mut [u64],
 ) -> GustAnswer
-    ensures { λ r. ⌜ PlannedIn (requestAgainst (kindOf kind) size source (now (targets .entry)) (short (meshOf kind size) (length (now (targets .entry))) (length (now (places .entry))) (length (now (counts .entry))))) (length (now (targets .entry))) (width (meshOf kind size)) (Fan (meshOf kind size) source (now (targets .entry))) (now (places .entry)) (now (counts .entry)) r (now (places .exit)) (now (counts .exit)) ⌝ }
+    ensures { λ r. ⌜ PlannedIn (plannedAgainst (kindOf kind) size source (now (targets .entry)) (short (meshOf kind size) (length (now (targets .entry))) (length (now (places .entry))) (length (now (counts .entry))))) (length (now (targets .entry))) (width (meshOf kind size)) (Fan (meshOf kind size) source (now (targets .entry))) (now (places .entry)) (now (counts .entry)) r (now (places .exit)) (now (counts .exit)) ⌝ }
 {
     let planned = planner::plan(
         Mesh {

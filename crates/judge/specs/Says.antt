@@ -14,7 +14,7 @@ use Rattle.paths.specs.Rules.{Rules, span, fanRules}
 use Rattle.paths.specs.Finding.{Finding, clean, found, findingBy}
 use Rattle.paths.specs.Bundles.{bundleRules, endsAt}
 use Rattle.mesh.specs.Kinds.{Kind}
-use Rattle.mesh.specs.Says.{sizeFaultsIn}
+use Rattle.mesh.specs.Says.{sizeFaultsIn, servedFaultsIn}
 use Rattle.judge.specs.declared.Finding as code
 use Rattle.judge.specs.declared.Finding.the-variants.{TooLong, NotFromSource, NotLinked, NotToTarget, SeenAgain, NotFilled}
 use Rattle.judge.specs.declared.Verdict.{Verdict}
@@ -83,7 +83,7 @@ bundleAsked K n s t = record {
   rules = bundleRules (K .mesh n);
   source = s;
   targets = endsAt (K .mesh n) t;
-  faults = sizeFaultsIn K n ++ endFaults (K .mesh n .relays) s t;
+  faults = servedFaultsIn K n ++ endFaults (K .mesh n .relays) s t;
 }
 
 module _ (q : Asked) (places counts : List ℕ) where

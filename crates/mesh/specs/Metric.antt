@@ -9,11 +9,11 @@ use mathlib.Core.Option.{Option}
 use lib.ListN.{length, getD}
 use borrow.Author.Tests.{not-false, ltb-false}
 use Rattle.scan.specs.Laws.{true-false}
-use Rattle.answers.specs.Order.{first, refuse-none, sizeFaults, distanceFaults, pairFaults}
+use Rattle.answers.specs.Order.{first, refuse-none, distanceFaults, pairFaults}
 use Rattle.answers.specs.Pairs.{pair-sound, pair-fine}
 use Rattle.answers.specs.Told.{told, tell}
 use Rattle.answers.specs.declared.Refusal.{Refusal}
-use Rattle.answers.specs.declared.Refusal.the-variants.{UnknownSize, NoDistance}
+use Rattle.answers.specs.declared.Refusal.the-variants.{NoDistance}
 use Rattle.paths.specs.Fan.{Fan, hops}
 use Rattle.paths.specs.Bundles.{Bundle}
 use Rattle.paths.specs.Ways.{Shortest, distance, shortest-one}
@@ -22,7 +22,8 @@ use Rattle.paths.specs.Routed.{routed-way}
 use Rattle.two_parts.specs.Parts.{known-bounds}
 use Rattle.two_distance.specs.Moved.{distance-is}
 use Rattle.mesh.specs.Kinds.{Kind, kindOf, meshOf, known}
-use Rattle.mesh.specs.Laws.{known-case, known-near}
+use Rattle.mesh.specs.Laws.{known-case, known-near, known-planned, served-fine}
+use Rattle.mesh.specs.Requests.{served-sound}
 use Rattle.mesh.specs.Says.{distanceFaultsIn, distanceTold, routeTold}
 use Rattle.mesh.specs.Plain.{value-told, route-left}
 
@@ -34,6 +35,7 @@ module _ (k n : ℕ) where
   -- what is answered
   record Answered (s t : ℕ) : Type 0 where
     pub size : known k n ≡ true
+    pub served : kindOf k .planned ≡ true
     pub near : kindOf k .undistanced n ≡ false
     pub source : s < meshOf k n .relays
     pub target : t < meshOf k n .relays
@@ -41,14 +43,15 @@ module _ (k n : ℕ) where
   far-answered : (s t d : ℕ) → Far s t d → Answered s t × (distance (meshOf k n) s t ≡ d)
   far-answered s t d e =
       let v = value-told (first (distanceFaultsIn (kindOf k) n s t)) (distance (meshOf k n) s t) d e in
-      let a = refuse-none (not (known k n)) UnknownSize (first (distanceFaults (kindOf k .undistanced n) ++ pairFaults (meshOf k n .relays) s t)) (v .0) in
-      let b = refuse-none (kindOf k .undistanced n) NoDistance (first (pairFaults (meshOf k n .relays) s t)) (a .1) in
-      let (z, hs, ht) = pair-sound true (meshOf k n .relays) s t (b .1) in
-      (record { size = not-false (known k n) (a .0); near = b .0; source = hs; target = ht }, v .1)
+      let (z, p, r) = served-sound (kindOf k) n (distanceFaults (kindOf k .undistanced n) ++ pairFaults (meshOf k n .relays) s t) (v .0) in
+      let b = refuse-none (kindOf k .undistanced n) NoDistance (first (pairFaults (meshOf k n .relays) s t)) r in
+      let (y, hs, ht) = pair-sound true (meshOf k n .relays) s t (b .1) in
+      (record { size = z; served = p; near = b .0; source = hs; target = ht }, v .1)
 
   answered-far : (s t : ℕ) → Answered s t → Far s t (distance (meshOf k n) s t)
   answered-far s t a =
-      ap₂ (λ (x y : Bool). tell (first (sizeFaults (not x) ++ distanceFaults y ++ pairFaults (meshOf k n .relays) s t)) 0 (distance (meshOf k n) s t)) (a .size) (a .near)
+      ap (λ (o : Option Refusal). tell o 0 (distance (meshOf k n) s t)) (sym (served-fine k n (distanceFaults (kindOf k .undistanced n) ++ pairFaults (meshOf k n .relays) s t) (sym (known-planned k n (a .size) (a .served))) refl))
+      ∙ ap (λ (y : Bool). tell (first (distanceFaults y ++ pairFaults (meshOf k n .relays) s t)) 0 (distance (meshOf k n) s t)) (a .near)
       ∙ ap (λ (o : Option Refusal). tell o 0 (distance (meshOf k n) s t)) (sym (pair-fine (meshOf k n .relays) s t {r = true} {known = true} refl refl (a .source) (a .target)))
 
   answered-shortest : (s t : ℕ) → Answered s t → Shortest (meshOf k n) s t (distance (meshOf k n) s t)
@@ -57,6 +60,7 @@ module _ (k n : ℕ) where
       (λ j (K : Kind). K .undistanced n ≡ false → s < K .mesh n .relays → t < K .mesh n .relays → Shortest (K .mesh n) s t (distance (K .mesh n) s t))
       (λ c f hs ht. absurd (true-false refl f))
       (λ c f hs ht. distance-is n s t (known-bounds n c .0) (ltb-false 3 n f) hs ht)
+      (λ c f hs ht. absurd (true-false refl f))
       (a .near) (a .source) (a .target)
 
   pub told-shortest : (s t d : ℕ) → Far s t d → Shortest (meshOf k n) s t d
@@ -65,7 +69,7 @@ module _ (k n : ℕ) where
   pub told-same : (s t d : ℕ) → Far s t d → Far t s d
   told-same s t d e =
       let (a, is) = far-answered s t d e in
-      let b : Answered t s = record { size = a .size; near = a .near; source = a .target; target = a .source } in
+      let b : Answered t s = record { size = a .size; served = a .served; near = a .near; source = a .target; target = a .source } in
       let back = shortest-back (meshOf k n) (known-near k n (a .size) .both) t s (distance (meshOf k n) t s) (a .target) (a .source) (answered-shortest t s b) in
       subst (λ (j : ℕ). Far t s j) (shortest-one (meshOf k n) s t (distance (meshOf k n) t s) d back (told-shortest s t d e)) (answered-far t s b)
 

@@ -26,6 +26,10 @@ use Rattle.cube.specs.Route as cube
 use Rattle.cube.specs.Once as cubes
 use Rattle.two.specs.Next as two
 use Rattle.two.specs.Once as twos
+use Rattle.meta_parts.specs.Meta as meta
+use Rattle.meta_parts.specs.Sizes.{known-sized}
+use Rattle.meta.specs.Next as metaWalk
+use Rattle.meta.specs.Once as metas
 use Rattle.mesh.specs.Kinds.{Kind, kindOf, meshOf, known}
 use Rattle.mesh.specs.Laws.{known-case}
 use Rattle.mesh.specs.Says.{sizeFaultsIn, routeAgainst, routeTold, routeLeaves}
@@ -42,11 +46,12 @@ module _ (k n s t : ℕ) (h : known k n ≡ true) where
   known-routed = known-case k n h (λ j (K : Kind). s < K .mesh n .relays → t < K .mesh n .relays → Routed (K .mesh n) (K .next n) s t (K .hops n s t))
       (λ c hs ht. cubes.plain-routed n s t (omega (arith, known-most n refl c)) hs ht)
       (λ c hs ht. twos.plain-routed n s t hs ht)
+      (λ c hs ht. metas.plain-routed (meta.classBits n) (meta.partBits n) (known-sized n refl c) t ht s hs)
 
   -- the route is the repetition of next hop
   pub known-route : kindOf k .route n s t ≡ walk.route (kindOf k .next n) s t (kindOf k .hops n s t)
-  unfolding cube.route two.route
-  known-route = known-case k n h (λ j (K : Kind). K .route n s t ≡ walk.route (K .next n) s t (K .hops n s t)) (λ c. refl) (λ c. refl)
+  unfolding cube.route two.route metaWalk.route
+  known-route = known-case k n h (λ j (K : Kind). K .route n s t ≡ walk.route (K .next n) s t (K .hops n s t)) (λ c. refl) (λ c. refl) (λ c. refl)
 
   pub known-once : s < meshOf k n .relays → t < meshOf k n .relays → Fresh (kindOf k .route n s t)
   known-once hs ht = subst Fresh (sym known-route) (paths.route-fresh (kindOf k .next n) s t (kindOf k .hops n s t) (known-routed hs ht .arrives))

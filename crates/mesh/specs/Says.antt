@@ -6,7 +6,7 @@ use mathlib.Core.Option.{Option}
 use lib.Dec.{leb, ltb}
 use lib.ListN.{length, drop}
 use Rattle.scan.specs.Scan.{pick}
-use Rattle.answers.specs.Order.{Fault, first, sizeFaults, distanceFaults, pairFaults, endFaults, requestFaults, roomFaults}
+use Rattle.answers.specs.Order.{Fault, first, sizeFaults, servedFaults, distanceFaults, pairFaults, endFaults, requestFaults, roomFaults}
 use Rattle.answers.specs.Told.{Told, tell, leaves}
 use Rattle.answers.specs.declared.Refusal.{Refusal}
 use Rattle.paths.specs.Mesh.{Mesh, width}
@@ -22,21 +22,29 @@ use Rattle.mesh.specs.declared.Fact.the-variants.{Relays, Links, Longest
 abbrev pub sizeFaultsIn : (k : Kind) (n : ℕ) → List Fault
 sizeFaultsIn k n = sizeFaults (not (k .known n))
 
+-- 1, 52: of a routine that serves only kinds that are planned
+abbrev pub servedFaultsIn : (k : Kind) (n : ℕ) → List Fault
+servedFaultsIn k n = sizeFaultsIn k n ++ servedFaults (not (k .planned))
+
 -- 1, 2, 5, and 8 where there is no room
 abbrev pub pairFaultsIn : (k : Kind) (n s t : ℕ) (room : Bool) → List Fault
 pairFaultsIn k n s t room = sizeFaultsIn k n ++ pairFaults (k .mesh n .relays) s t ++ roomFaults room
 
--- 1, 9, 2, 5
+-- 1, 52, 9, 2, 5
 abbrev pub distanceFaultsIn : (k : Kind) (n s t : ℕ) → List Fault
-distanceFaultsIn k n s t = sizeFaultsIn k n ++ distanceFaults (k .undistanced n) ++ pairFaults (k .mesh n .relays) s t
+distanceFaultsIn k n s t = servedFaultsIn k n ++ distanceFaults (k .undistanced n) ++ pairFaults (k .mesh n .relays) s t
 
--- 1, 2, 5, 6, and 8 where there is no room
+-- 1, 52, 2, 5, 6, and 8 where there is no room
 abbrev pub bundleFaultsIn : (k : Kind) (n s t : ℕ) (room : Bool) → List Fault
-bundleFaultsIn k n s t room = sizeFaultsIn k n ++ endFaults (k .mesh n .relays) s t ++ roomFaults room
+bundleFaultsIn k n s t room = servedFaultsIn k n ++ endFaults (k .mesh n .relays) s t ++ roomFaults room
 
 -- 1 to 7, and 8 where there is no room
 abbrev pub requestFaultsIn : (k : Kind) (n s : ℕ) (targets : List ℕ) (room : Bool) → List Fault
 requestFaultsIn k n s targets room = sizeFaultsIn k n ++ requestFaults (k .mesh n .relays) (k .mesh n .links) s targets ++ roomFaults room
+
+-- 1, 52, 2 to 7, and 8 where there is no room
+abbrev pub plannedFaultsIn : (k : Kind) (n s : ℕ) (targets : List ℕ) (room : Bool) → List Fault
+plannedFaultsIn k n s targets room = servedFaultsIn k n ++ requestFaults (k .mesh n .relays) (k .mesh n .links) s targets ++ roomFaults room
 
 abbrev pub sizeAgainst : (k : Kind) (n : ℕ) → Option Refusal
 sizeAgainst k n = first (sizeFaultsIn k n)
@@ -46,6 +54,9 @@ pairAgainst k n s t room = first (pairFaultsIn k n s t room)
 
 abbrev pub requestAgainst : (k : Kind) (n s : ℕ) (targets : List ℕ) (room : Bool) → Option Refusal
 requestAgainst k n s targets room = first (requestFaultsIn k n s targets room)
+
+abbrev pub plannedAgainst : (k : Kind) (n s : ℕ) (targets : List ℕ) (room : Bool) → Option Refusal
+plannedAgainst k n s targets room = first (plannedFaultsIn k n s targets room)
 
 abbrev pub bundleAgainst : (k : Kind) (n s t : ℕ) (room : Bool) → Option Refusal
 bundleAgainst k n s t room = first (bundleFaultsIn k n s t room)
@@ -77,7 +88,7 @@ linkedTold k n s t = tell (pairAgainst k n s t false) false (k .mesh n .linked s
 abbrev pub nextTold : (k : Kind) (n s t : ℕ) → Told ℕ
 nextTold k n s t = tell (pairAgainst k n s t false) 0 (k .next n s t)
 
--- 9 after 1; the fewest links between two relays
+-- 52 and 9 after 1; the fewest links between two relays
 abbrev pub distanceTold : (k : Kind) (n s t : ℕ) → Told ℕ
 distanceTold k n s t = tell (first (distanceFaultsIn k n s t)) 0 (distance (k .mesh n) s t)
 

@@ -10,8 +10,10 @@ pub use pairs::next_hop;
 pub use pairs::route;
 pub use requested::bundle_short;
 pub use requested::ends;
+pub use requested::plan_request;
 pub use requested::request;
 pub use requested::short;
+pub use requested::unplanned;
 ghost use mathlib.Core.Path.{_≡_};
 ghost use mathlib.Core.Bool.{true};
 ghost use Rattle.answers.specs.Told.{answerTold};
@@ -19,21 +21,26 @@ ghost use Rattle.paths.specs.Mesh.{width};
 ghost use Rattle.paths.specs.Bundles.{longer};
 ghost use Rattle.cube.specs.Cube as cubes;
 ghost use Rattle.two_parts.specs.Two as twos;
+ghost use Rattle.meta_parts.specs.Meta as metas;
 ghost use Rattle.mesh.specs.Kinds as specs;
 ghost use Rattle.mesh.specs.Says.{factOf, factTold};
 use answers::Answer;
 use answers::Refusal;
 use cube::Size;
+use meta::Metacube;
 use two::Order;
 
-// A kind, 1 the plain cube and 2 the two-level mesh, and a size: the dimensions of a cube, the order of a two-level mesh. Every two
-// numbers can be asked; what is no mesh is refused by each routine.
+// A kind, 1 the plain cube, 2 the two-level mesh and 3 the metacube, and a size: the dimensions of a cube, the order of a two-level mesh, of a metacube k·64 + m. Every
+// two numbers can be asked; what is no mesh is refused by each routine.
 pub struct Mesh {
     pub kind: u64,
     pub size: u64,
 }
 
-// Of any mesh that there is: the most links of a relay, places of a path, places of a fan, bytes of a sheet.
+// Of any mesh that there is: the most links of a relay.
+pub const ANY_LINKS: usize = 37;
+
+// Of any mesh that is planned: the most links of a relay, places of a path, places of a fan, bytes of a sheet.
 pub const MOST_LINKS: usize = 32;
 
 pub const MOST_WIDTH: usize = 207;
@@ -56,6 +63,8 @@ impl Mesh {
 
     pub const TWO: u64 = 2;
 
+    pub const META: u64 = 3;
+
     // Whether there is such a mesh: of kind 2 and size 5 there is one, of size 6 there is none.
     pub fn known(self) -> bool
         ensures { λ r. ⌜ r ≡ specs.known (self .kind) (self .size) ⌝ }
@@ -66,7 +75,20 @@ impl Mesh {
         if self.kind == Self::TWO {
             return Order(self.size).known();
         }
+        if self.kind == Self::META {
+            return Metacube(self.size).known();
+        }
         false
+    }
+
+    // Whether there is such a mesh, and the planners, distance and sheets serve it: of kinds 1 and 2.
+    pub fn planned(self) -> bool
+        ensures { λ r. ⌜ r ≡ specs.planned (self .kind) (self .size) ⌝ }
+    {
+        if self.kind == Self::META {
+            return false;
+        }
+        self.known()
     }
 
     // How many relays: of kind 2 and size 3 there are 2,048.
@@ -143,6 +165,20 @@ fn two_fact(m: u64, which: Fact) -> u64
     }
 }
 
+// A fact of a metacube.
+fn meta_fact(n: u64, which: Fact) -> u64
+    requires { ⌜ metas.known n ≡ true ⌝ }
+    ensures { λ r. ⌜ r ≡ factOf which (metas.metacube n) ⌝ }
+{
+    match which {
+        Fact::Relays => meta_parts::relays_in(Metacube(n)),
+        Fact::Links => meta_parts::links_in(Metacube(n)),
+        Fact::Longest => meta_parts::longest_in(Metacube(n)),
+        Fact::Places => meta_parts::longest_in(Metacube(n)) + 1,
+        Fact::BundlePlaces => meta_parts::longest_in(Metacube(n)) + 2,
+    }
+}
+
 // A fact of a mesh that there is.
 fn fact_in(mesh: Mesh, which: Fact) -> u64
     requires { ⌜ specs.known (mesh .kind) (mesh .size) ≡ true ⌝ }
@@ -153,6 +189,9 @@ fn fact_in(mesh: Mesh, which: Fact) -> u64
     }
     if mesh.kind == Mesh::TWO {
         return two_fact(mesh.size, which);
+    }
+    if mesh.kind == Mesh::META {
+        return meta_fact(mesh.size, which);
     }
     0
 }

@@ -8,10 +8,12 @@ ghost use Rattle.cube.specs.Cube as cubes;
 ghost use Rattle.mesh.specs.Kinds as specs;
 ghost use Rattle.mesh.specs.Says.{linkedTold, nextTold, distanceTold, routeTold, routeLeaves};
 use crate::Mesh;
+use crate::requested;
 use answers::Answer;
 use answers::Refusal;
 use answers::YesNo;
 use cube::Size;
+use meta::Metacube;
 use two::Order;
 
 // Whether two relays are linked: in the mesh of kind 2 and size 2, 27 and 59 are. Refuses with 1, 2, 5.
@@ -23,6 +25,9 @@ pub fn linked(mesh: Mesh, source: u64, target: u64) -> YesNo
     }
     if mesh.kind == Mesh::TWO {
         return two::linked(Order(mesh.size), source, target);
+    }
+    if mesh.kind == Mesh::META {
+        return meta::linked(Metacube(mesh.size), source, target);
     }
     YesNo::Refused(Refusal::UnknownSize)
 }
@@ -38,6 +43,9 @@ pub fn next_hop(mesh: Mesh, source: u64, target: u64) -> Answer
     if mesh.kind == Mesh::TWO {
         return two::next_hop(Order(mesh.size), source, target);
     }
+    if mesh.kind == Mesh::META {
+        return meta::next_hop(Metacube(mesh.size), source, target);
+    }
     Answer::Refused(Refusal::UnknownSize)
 }
 
@@ -52,7 +60,7 @@ fn no_distance(size: Size) -> Answer
     }
 }
 
-// The fewest links between two relays, in meshes of kind 2 and sizes 1 to 3: in that of size 1 from 0 to 6 they are 4. Refuses with 1, 9, 2, 5.
+// The fewest links between two relays, in meshes of kind 2 and sizes 1 to 3: in that of size 1 from 0 to 6 they are 4. Refuses with 1, 52, 9, 2, 5.
 pub fn distance(mesh: Mesh, source: u64, target: u64) -> Answer
     ensures { λ r. ⌜ answerTold r ≡ distanceTold (specs.kindOf (mesh .kind)) (mesh .size) source target ⌝ }
 {
@@ -62,7 +70,7 @@ pub fn distance(mesh: Mesh, source: u64, target: u64) -> Answer
     if mesh.kind == Mesh::TWO {
         return two_distance::distance(Order(mesh.size), source, target);
     }
-    Answer::Refused(Refusal::UnknownSize)
+    Answer::Refused(requested::unplanned(mesh))
 }
 
 // Writes the plain route from the source to the target from place 0 of `out`, and answers its hops: in the mesh of kind 2 and size 2 from 0 to
@@ -77,6 +85,9 @@ pub fn route(mesh: Mesh, source: u64, target: u64, out: &mut [u64]) -> Answer
     if mesh.kind == Mesh::TWO {
         return two::route(Order(mesh.size), source, target, out);
     }
+    if mesh.kind == Mesh::META {
+        return meta::route(Metacube(mesh.size), source, target, out);
+    }
     Answer::Refused(Refusal::UnknownSize)
 }
 
@@ -90,6 +101,9 @@ pub fn joined(mesh: Mesh, u: u64, v: u64) -> bool
     }
     if mesh.kind == Mesh::TWO {
         return two_parts::link(Order(mesh.size), u, v);
+    }
+    if mesh.kind == Mesh::META {
+        return meta_parts::joined(Metacube(mesh.size), u, v);
     }
     false
 }
@@ -106,6 +120,9 @@ pub fn near(mesh: Mesh, u: u64, i: u64) -> u64
     }
     if mesh.kind == Mesh::TWO {
         return two_parts::near(Order(mesh.size), u, i);
+    }
+    if mesh.kind == Mesh::META {
+        return meta_parts::near(Metacube(mesh.size), u, i);
     }
     0
 }

@@ -92,7 +92,7 @@ module _ (m : Mesh) (near : ℕ → ℕ → ℕ) (k : Links m near) (s t : ℕ) 
 
   -- link i of t leads elsewhere
   near-away : (i : ℕ) → i < m .links → near t i ≢ t
-  near-away i h e = true-false (ap (m .linked t) (sym e) ∙ k .linked t i ht h) (k .away t)
+  near-away i h e = true-false (ap (m .linked t) (sym e) ∙ k .linked t i ht h) (k .away t ht)
 
   pub end-other : (i : ℕ) → i < m .links → end i ≢ s
   end-other i h e = go (ℕ-discrete (near t i) s)
@@ -128,7 +128,7 @@ module _ (m : Mesh) (near : ℕ → ℕ → ℕ) (k : Links m near) (s t : ℕ) 
   -- a relay linked to t, which is not s, ends a path
   link-end : (x : ℕ) → x < m .relays → x ≢ s → m .linked x t ≡ true → (j : ℕ) × (j < m .links) × (end j ≡ x)
   link-end x h other e =
-      let (j, l, z) = k .all t x ht h (k .both t x ∙ e) in
+      let (j, l, z) = k .all t x ht h (k .both t x ht h ∙ e) in
       (j, l, end-near j (λ y. other (sym z ∙ y)) ∙ z)
 
   module _ (targets : List ℕ) (many : length targets ≡ m .links) (each : (i : ℕ) → i < m .links → getD targets i 0 ≡ end i)
@@ -160,7 +160,7 @@ module _ (m : Mesh) (near : ℕ → ℕ → ℕ) (k : Links m near) (s t : ℕ) 
             let same : i ≡ j = one-path x i j h g a (subst (λ (w : ℕ). In w (paths j)) z (stands j g)) in
             absurd (other (sym (ap end same ∙ z)))
         go (first r z e) =
-            let (j, g, y) = k .all t s ht hs (k .both t s ∙ e) in
+            let (j, g, y) = k .all t s ht hs (k .both t s ht hs ∙ e) in
             let home : end j ≡ t = end-home j y in
             let same : i ≡ j = one-path t i j h g o (subst (λ (w : ℕ). In w (paths j)) home (stands j g)) in
             let ends : end i ≡ t = ap end same ∙ home in
@@ -204,7 +204,7 @@ module _ (m : Mesh) (near : ℕ → ℕ → ℕ) (k : Links m near) (s t : ℕ) 
           where
             linked-end : Dec (near t i ≡ s) → m .linked (end i) t ≡ true
             linked-end (yes y) = absurd (e (end-home i y))
-            linked-end (no y) = ap (λ (x : ℕ). m .linked x t) (end-near i y) ∙ k .both (near t i) t ∙ k .linked t i ht h
+            linked-end (no y) = ap (λ (x : ℕ). m .linked x t) (end-near i y) ∙ k .both (near t i) t (k .below t i ht h) ht ∙ k .linked t i ht h
 
         short : (i : ℕ) → i < m .links → Closed i → length (to i) ≤ m .longest + 1
         short i h (bare e z) = omega (arith, ap length z, f .short i (counted i h))

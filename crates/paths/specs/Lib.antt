@@ -22,5 +22,6 @@ pub mod Ways
 pub mod Metric
 pub mod Routed
 pub mod Links
+pub mod Doors
 pub mod Bundle
 pub mod Bundles

@@ -19,11 +19,11 @@ module _ (mesh : Mesh) where
   way-join zero k u v w e r = rw (zero-add k) (subst (λ (x : ℕ). Way mesh k x w) (sym e) r)
   way-join (suc n) k u v w (x, a, l, r) q = rw (suc-add n k) (x, a, l, way-join n k x v w r q)
 
-  module _ (both : (u v : ℕ) → mesh .linked u v ≡ mesh .linked v u) where
+  module _ (both : (u v : ℕ) → u < mesh .relays → v < mesh .relays → mesh .linked u v ≡ mesh .linked v u) where
     -- a way turned round
     pub way-back : (n u v : ℕ) → u < mesh .relays → Way mesh n u v → Way mesh n v u
     way-back zero u v h e = sym e
-    way-back (suc n) u v h (w, a, l, r) = way-more mesh n v w u (way-back n w v a r) h (both w u ∙ l)
+    way-back (suc n) u v h (w, a, l, r) = way-more mesh n v w u (way-back n w v a r) h (both w u a h ∙ l)
 
     pub shortest-back : (u v n : ℕ) → u < mesh .relays → v < mesh .relays → Shortest mesh u v n → Shortest mesh v u n
     shortest-back u v n hu hv s = record { way = way-back n u v hu (s .way); least = λ k w. s .least k (way-back k v u hv w) }

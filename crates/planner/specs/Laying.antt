@@ -17,9 +17,9 @@ use Rattle.cube.specs.Cube.{cube}
 use Rattle.two_parts.specs.Two.{two}
 use Rattle.two_parts.specs.Parts.{known-bounds}
 use Rattle.mesh.specs.Kinds.{Kind, kindOf, meshOf, known, cubes, twos, CUBE, TWO}
-use Rattle.mesh.specs.Says.{requestAgainst, short}
-use Rattle.mesh.specs.Laws.{as-cube, as-two, no-other}
-use Rattle.mesh.specs.Requests.{Fine, request-fine}
+use Rattle.mesh.specs.Says.{plannedAgainst, short}
+use Rattle.mesh.specs.Laws.{as-cube, as-two, known-planned, no-planned}
+use Rattle.mesh.specs.Requests.{Fine, plan-fine}
 use Rattle.requests.specs.Planned.{Planned}
 use Rattle.cube_split.specs.Fan.{Sought, Given}
 use Rattle.cube_plan.specs.Laying.{Asked, sought, laid-out}
@@ -32,16 +32,16 @@ use Rattle.planner.specs.Needs.{Layable}
 module _ (k n s : ℕ) (targets places counts : List ℕ) (p : Layable k n s targets (length places) (length counts)) where
   -- what is asked, and what is given, over a kind
   abbrev Asks : Kind → Type 0
-  Asks K = (requestAgainst K n s targets false ≡ none) × (short (K .mesh n) (length targets) (length places) (length counts) ≡ false)
+  Asks K = (plannedAgainst K n s targets false ≡ none) × (short (K .mesh n) (length targets) (length places) (length counts) ≡ false)
 
   abbrev Gives : (places₁ counts₁ : List ℕ) → Kind → Type 0
   Gives places₁ counts₁ K = Planned none (K .mesh n) s targets places counts checked.Fine places₁ counts₁
 
-  fine : Fine (kindOf k) n s targets
-  fine = request-fine (kindOf k) n s targets (p .clear)
+  fine : Fine (kindOf k) n s targets × (kindOf k .planned ≡ true)
+  fine = plan-fine (kindOf k) n s targets (p .clear)
 
   pub lay-known : known k n ≡ true
-  lay-known = fine .known
+  lay-known = fine .0 .known
 
   module _ (e : k ≡ CUBE) where
     cube-asks : Asks cubes
@@ -68,7 +68,7 @@ module _ (k n s : ℕ) (targets places counts : List ℕ) (p : Layable k n s tar
     two-asks = subst Asks (sym (as-two (λ (K : Kind). K) ne e)) (p .clear, p .room)
 
     two-fine : Fine twos n s targets
-    two-fine = request-fine twos n s targets (two-asks .0)
+    two-fine = plan-fine twos n s targets (two-asks .0) .0
 
     pub two-few : n ≤ 5
     two-few = known-bounds n (two-fine .known) .1
@@ -81,6 +81,6 @@ module _ (k n s : ℕ) (targets places counts : List ℕ) (p : Layable k n s tar
         → Gives places₁ counts₁ (kindOf k)
     two-laid {places₁} {counts₁} d long long-counts = subst (Gives places₁ counts₁) (as-two (λ (K : Kind). K) ne e) (lay-granted n s targets places counts refl n refl d long long-counts)
 
-  -- there is no mesh of another kind
+  -- no other mesh is planned
   pub none-left : k ≢ CUBE → k ≢ TWO → {places₁ counts₁ : List ℕ} → Gives places₁ counts₁ (kindOf k)
-  none-left ne nt = absurd (no-other k n (fine .known) ne nt)
+  none-left ne nt = absurd (no-planned k n (known-planned k n (fine .0 .known) (fine .1)) ne nt)

@@ -6,8 +6,8 @@ use mathlib.Core.List.{List}
 use mathlib.Core.Option.{none}
 use lib.ListN.{length}
 use Rattle.mesh.specs.Kinds.{kindOf, meshOf}
-use Rattle.mesh.specs.Says.{requestAgainst, short}
+use Rattle.mesh.specs.Says.{plannedAgainst, short}
 
 pub record Layable (kind size s : ℕ) (targets : List ℕ) (places counts : ℕ) : Type 0 where
-  pub clear : requestAgainst (kindOf kind) size s targets false ≡ none
+  pub clear : plannedAgainst (kindOf kind) size s targets false ≡ none
   pub room : short (meshOf kind size) (length targets) places counts ≡ false

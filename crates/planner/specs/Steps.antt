@@ -5,14 +5,16 @@ use mathlib.Core.Bool.{Bool, true, false}
 use mathlib.Core.List.{List}
 use mathlib.Core.Option.{Option, none}
 use lib.ListN.{length}
+use Rattle.answers.specs.Order.{Fault}
+use Rattle.answers.specs.Pairs.{room-refused, room-short, room-granted}
 use Rattle.answers.specs.Told.{against}
 use Rattle.answers.specs.declared.Refusal.{Refusal}
 use Rattle.answers.specs.declared.Refusal.the-variants.{NoRoom}
 use Rattle.answers.specs.declared.Checked.{Checked}
 use Rattle.answers.specs.declared.Checked.the-variants as checked
 use Rattle.mesh.specs.Kinds.{kindOf, meshOf, known}
-use Rattle.mesh.specs.Says.{requestAgainst, short}
-use Rattle.mesh.specs.Requests.{checked-fine, request-refused, request-short, request-granted}
+use Rattle.mesh.specs.Says.{plannedAgainst, short}
+use Rattle.mesh.specs.Requests.{plannedEarly, plan-fine}
 use Rattle.requests.specs.Planned.{Planned, refusal}
 use Rattle.planner.specs.Needs.{Layable}
 
@@ -20,24 +22,28 @@ module _ (k n s : ℕ) (targets places counts : List ℕ) where
   abbrev wanting : Bool
   wanting = short (meshOf k n) (length targets) (length places) (length counts)
 
+  -- 1, 52, 2 to 7
+  abbrev early : List Fault
+  early = plannedEarly (kindOf k) n s targets
+
   -- the promise
   abbrev Plans : Checked → List ℕ → List ℕ → Type 0
-  Plans r places₁ counts₁ = Planned (requestAgainst (kindOf k) n s targets wanting) (meshOf k n) s targets places counts r places₁ counts₁
+  Plans r places₁ counts₁ = Planned (plannedAgainst (kindOf k) n s targets wanting) (meshOf k n) s targets places counts r places₁ counts₁
 
-  module _ {r : Checked} (e : against r ≡ requestAgainst (kindOf k) n s targets false) where
+  module _ {r : Checked} (e : against r ≡ plannedAgainst (kindOf k) n s targets false) where
     pub plan-refused : {why : Refusal} → r ≡ checked.Refused why → Plans (checked.Refused why) places counts
-    plan-refused f = refusal (meshOf k n) s targets places counts (sym (request-refused (kindOf k) n s targets e wanting f))
+    plan-refused f = refusal (meshOf k n) s targets places counts (sym (room-refused early wanting e f))
 
     -- what asking for room asks
     pub short-ask : r ≡ checked.Fine → (known k n ≡ true) × (length targets ≤ meshOf k n .links)
-    short-ask f = let fine = checked-fine (kindOf k) n s targets e f in (fine .known, fine .sound .few)
+    short-ask f = let fine = plan-fine (kindOf k) n s targets (sym e ∙ ap against f) .0 in (fine .known, fine .sound .few)
 
     module _ {flag : Bool} (f : r ≡ checked.Fine) (w : flag ≡ wanting) where
       pub plan-short : flag ≡ true → Plans (checked.Refused NoRoom) places counts
-      plan-short t = refusal (meshOf k n) s targets places counts (sym (request-short (kindOf k) n s targets e f w t))
+      plan-short t = refusal (meshOf k n) s targets places counts (sym (room-short early wanting e f w t))
 
       pub layable : flag ≡ false → Layable k n s targets (length places) (length counts)
       layable t = record { clear = sym e ∙ ap against f; room = sym w ∙ t }
 
       pub plan-laid : flag ≡ false → {places₁ counts₁ : List ℕ} → Planned none (meshOf k n) s targets places counts checked.Fine places₁ counts₁ → Plans checked.Fine places₁ counts₁
-      plan-laid t {places₁} {counts₁} d = subst (λ (o : Option Refusal). Planned o (meshOf k n) s targets places counts checked.Fine places₁ counts₁) (request-granted (kindOf k) n s targets e f w t) d
+      plan-laid t {places₁} {counts₁} d = subst (λ (o : Option Refusal). Planned o (meshOf k n) s targets places counts checked.Fine places₁ counts₁) (room-granted early wanting e f w t) d

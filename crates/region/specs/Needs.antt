@@ -8,7 +8,7 @@ use lib.Dec.{ltb}
 use lib.ListN.{length}
 use Rattle.scan.specs.Scan.{pick}
 use Rattle.mesh.specs.Kinds.{kindOf, meshOf}
-use Rattle.mesh.specs.Says.{requestAgainst}
+use Rattle.mesh.specs.Says.{plannedAgainst}
 use Rattle.mesh.specs.Limits.{mostLinks, mostPlaces}
 use Rattle.region.specs.Says.{most}
 
@@ -19,7 +19,7 @@ pub record Roomy (places counts : ℕ) : Type 0 where
 
 -- a request that nothing stands against, and room for its paths and its sheet
 pub record Layable (kind size s : ℕ) (targets : List ℕ) (places counts out : ℕ) : Type 0 where
-  pub clear : requestAgainst (kindOf kind) size s targets false ≡ none
+  pub clear : plannedAgainst (kindOf kind) size s targets false ≡ none
   pub roomy : Roomy places counts
   pub long : most (meshOf kind size) (length targets) ≤ out
 

@@ -19,15 +19,16 @@ use Rattle.answers.specs.Order.{first, refuse, refuse-at, firstAt, isOut, isSam
 use Rattle.answers.specs.Told.{number, place, against}
 use Rattle.answers.specs.Laws.{number-some}
 use Rattle.answers.specs.declared.Refusal.{Refusal}
-use Rattle.answers.specs.declared.Refusal.the-variants.{Unreadable, UnknownSize, SourceOut, NoTarget, TooMany, TargetOut, TargetIsSource, TargetAgain, NoRoom}
+use Rattle.answers.specs.declared.Refusal.the-variants.{Unreadable, UnknownSize, NotServed, SourceOut, NoTarget, TooMany, TargetOut, TargetIsSource, TargetAgain, NoRoom}
 use Rattle.answers.specs.declared.Checked.{Checked}
 use Rattle.answers.specs.declared.Checked.the-variants as checked
 use Rattle.paths.specs.Mesh.{width}
 use Rattle.paths.specs.Fan.{Fan}
 use Rattle.mesh.specs.Kinds.{kindOf, meshOf, known}
-use Rattle.mesh.specs.Limits.{mostLinks, known-links, known-width, known-places}
-use Rattle.mesh.specs.Says.{requestAgainst, short}
-use Rattle.mesh.specs.Requests.{Fine, request-fine, checked-fine, room-enough}
+use Rattle.mesh.specs.Limits.{mostLinks, known-links, known-width, planned-links, planned-places}
+use Rattle.mesh.specs.Laws.{known-planned}
+use Rattle.mesh.specs.Says.{plannedAgainst, short}
+use Rattle.mesh.specs.Requests.{plan-fine, plan-asked, room-enough}
 use Rattle.requests.specs.Planned as requests
 use Rattle.requests.specs.Planned.{not-both}
 use Rattle.planner.specs.Needs as planner
@@ -62,9 +63,10 @@ module _ (why : Refusal) where
   through-at nowhere f rest p q e = q e
   through-at (at j) f rest p q e = subst (λ (y : Refusal). place y < 256) (some-inj e) (p j refl)
 
-  request-small : (kind size s : ℕ) (targets : List ℕ) → requestAgainst (kindOf kind) size s targets false ≡ some why → place why < 256
+  request-small : (kind size s : ℕ) (targets : List ℕ) → plannedAgainst (kindOf kind) size s targets false ≡ some why → place why < 256
   request-small kind size s targets =
       through (not (known kind size)) UnknownSize _ (omega arith) (λ k.
+      through (not (kindOf kind .planned)) NotServed _ (omega arith) (λ v.
       through (leb (meshOf kind size .relays) s) SourceOut _ (omega arith) (λ a.
       through (eqb (length targets) 0) NoTarget _ (omega arith) (λ b.
       through (ltb (meshOf kind size .links) (length targets)) TooMany _ (omega arith) (λ m.
@@ -72,9 +74,9 @@ module _ (why : Refusal) where
       λ test p e. omega (arith, seek-first test 0 (length targets) p e .within, ltb-false (meshOf kind size .links) (length targets) m, known-links kind size (not-false (known kind size) k)) in
       through-at (firstAt targets (isOut (meshOf kind size .relays) targets)) TargetOut _ (below (isOut (meshOf kind size .relays) targets))
       (through-at (firstAt targets (isSame s targets)) TargetIsSource _ (below (isSame s targets))
-      (through-at (firstAt targets (isAgain targets)) TargetAgain _ (below (isAgain targets)) (λ e. not-both refl (sym e))))))))
+      (through-at (firstAt targets (isAgain targets)) TargetAgain _ (below (isAgain targets)) (λ e. not-both refl (sym e)))))))))
 
-pub request-place : (kind size s : ℕ) (targets : List ℕ) {r : Checked} {why : Refusal} → r ≡ checked.Refused why → against r ≡ requestAgainst (kindOf kind) size s targets false → place why < 256
+pub request-place : (kind size s : ℕ) (targets : List ℕ) {r : Checked} {why : Refusal} → r ≡ checked.Refused why → against r ≡ plannedAgainst (kindOf kind) size s targets false → place why < 256
 request-place kind size s targets {r} {why} f e = request-small why kind size s targets (sym e ∙ ap against f)
 
 -- ---- the most bytes of a sheet
@@ -84,7 +86,7 @@ module _ (kind size k : ℕ) {w : ℕ} (e : w ≡ width (meshOf kind size)) wher
   longest-is : w - 1 ≡ meshOf kind size .longest
   longest-is = omega (arith, e)
 
-  pub most-few : known kind size ≡ true → k ≤ meshOf kind size .links → (8 * (w - 1) ≤ 1648) × (k * (2 + 8 * (w - 1)) ≤ 52800)
+  pub most-few : known kind size ≡ true → k ≤ meshOf kind size .links → (8 * (w - 1) ≤ 1648) × (k * (2 + 8 * (w - 1)) ≤ 61050)
   most-few h g =
       let wide : 2 + 8 * (w - 1) ≤ 1650 = omega (arith, longest-is, known-width kind size h) in
       (omega arith, le-trans (mul-le-mul (le-trans g (known-links kind size h)) wide) (omega arith))
@@ -97,10 +99,11 @@ module _ (kind size k : ℕ) {w : ℕ} (e : w ≡ width (meshOf kind size)) wher
 module _ (kind size s : ℕ) (targets : List ℕ) where
   wide : {places counts out : ℕ} → Layable kind size s targets places counts out → short (meshOf kind size) (length targets) places counts ≡ false
   wide {places} {counts} {out} p =
-      let fine = request-fine (kindOf kind) size s targets (p .clear) in
+      let (fine, v) = plan-fine (kindOf kind) size s targets (p .clear) in
+      let h = known-planned kind size (fine .known) v in
       let all = mul-le-mul-right (width (meshOf kind size)) (fine .sound .few) in
-      let placed : length targets * width (meshOf kind size) ≤ places = omega (arith, all, known-places kind size (fine .known), p .roomy .placed) in
-      let counted : length targets ≤ counts = omega (arith, fine .sound .few, known-links kind size (fine .known), p .roomy .counted) in
+      let placed : length targets * width (meshOf kind size) ≤ places = omega (arith, all, planned-places kind size h, p .roomy .placed) in
+      let counted : length targets ≤ counts = omega (arith, fine .sound .few, planned-links kind size h, p .roomy .counted) in
       enough (meshOf kind size) (length targets) places counts placed counted
 
   -- what laying a fan asks
@@ -112,10 +115,10 @@ module _ (kind size s : ℕ) (targets : List ℕ) where
     pub lay-judged : Judged (kindOf kind) size s targets places₁ counts₁
     lay-judged =
         let room = room-enough (meshOf kind size) (length targets) (length places) (length counts) (wide p) in
-        record { request = p .clear; room = omega (arith, room .0, f .as-long); counted = omega (arith, room .1, f .as-long-counts); fan = f .paths refl }
+        record { request = plan-asked (kindOf kind) size s targets (p .clear); room = omega (arith, room .0, f .as-long); counted = omega (arith, room .1, f .as-long-counts); fan = f .paths refl }
 
     pub lay-sheeted : Sheeted kind size (length targets) (length places₁) counts₁
-    lay-sheeted = judged-sheeted kind size s targets places₁ counts₁ lay-judged
+    lay-sheeted = let (fine, v) = plan-fine (kindOf kind) size s targets (p .clear) in judged-sheeted kind size s targets places₁ counts₁ (known-planned kind size (fine .known) v) lay-judged
 
   pub lay-answered : {places counts places₁ counts₁ out out₁ : List ℕ} {w : Written} → Layable kind size s targets (length places) (length counts) (length out)
       → requests.Planned none (meshOf kind size) s targets places counts checked.Fine places₁ counts₁
@@ -143,17 +146,17 @@ pub refusal : {n r : ℕ} (kind size s : ℕ) (targets out : List ℕ) → n ≢
 refusal kind size s targets out ne p = record { told = p; answered = λ z. absurd (ne z); refused = λ z. refl }
 
 -- what was found of the request, and then what comes after it
-told-as : (kind size s : ℕ) (targets out : List ℕ) {o : Option Refusal} → o ≡ requestAgainst (kindOf kind) size s targets false
+told-as : (kind size s : ℕ) (targets out : List ℕ) {o : Option Refusal} → o ≡ plannedAgainst (kindOf kind) size s targets false
     → coded o (sheetCode kind size (length targets) out) ≡ listCode kind size s targets out
 told-as kind size s targets out e = ap (λ (o : Option Refusal). coded o (sheetCode kind size (length targets) out)) e
 
-module _ (kind size s : ℕ) (targets out : List ℕ) {c : Checked} (e : against c ≡ requestAgainst (kindOf kind) size s targets false) where
+module _ (kind size s : ℕ) (targets out : List ℕ) {c : Checked} (e : against c ≡ plannedAgainst (kindOf kind) size s targets false) where
   pub list-refused : {why : Refusal} {r : ℕ} → c ≡ checked.Refused why → r ≡ codeOf (some why) → Planned (listCode kind size s targets out) kind size s targets out r out
   list-refused {why} f p = let o = told-as kind size s targets out (sym (ap against f) ∙ e) in refusal kind size s targets out (λ z. code-some why (o ∙ z)) (p ∙ o)
 
   module _ (f : c ≡ checked.Fine) where
     pub list-known : (known kind size ≡ true) × (length targets ≤ meshOf kind size .links)
-    list-known = let fine = checked-fine (kindOf kind) size s targets e f in (fine .known, fine .sound .few)
+    list-known = let fine = plan-fine (kindOf kind) size s targets (sym e ∙ ap against f) .0 in (fine .known, fine .sound .few)
 
     -- what code has of a lone path, and of the most bytes of a sheet
     module _ {b : Bool} (is : b ≡ lone kind (length targets)) where
@@ -180,27 +183,34 @@ module _ (kind size s : ℕ) (targets out : List ℕ) {c : Checked} (e : against
 -- ---- the first 33 of more targets
 
 -- there are more than any relay has links
+-- what is told of so many, by what is known of the mesh and of the source
+abbrev told-many : (u v w : Bool) → Option Refusal
+told-many u v w = refuse u UnknownSize (refuse v NotServed (refuse w SourceOut (some TooMany)))
+
 module _ (kind size s : ℕ) (targets out : List ℕ) (h : 32 < length targets) where
   abbrev early : Option Refusal
-  early = refuse (not (known kind size)) UnknownSize (refuse (leb (meshOf kind size .relays) s) SourceOut (some TooMany))
+  early = told-many (not (known kind size)) (not (kindOf kind .planned)) (leb (meshOf kind size .relays) s)
 
-  many : requestAgainst (kindOf kind) size s targets false ≡ early
-  many = go (true-or (known kind size))
+  many : plannedAgainst (kindOf kind) size s targets false ≡ early
+  many = go (true-or (known kind size)) (true-or (kindOf kind .planned))
     where
-      go : (known kind size ≡ true) ⊎ (known kind size ≡ false) → requestAgainst (kindOf kind) size s targets false ≡ early
-      go (inl k) = let more : meshOf kind size .links < length targets = omega (arith, known-links kind size k) in
+      go : (known kind size ≡ true) ⊎ (known kind size ≡ false) → (kindOf kind .planned ≡ true) ⊎ (kindOf kind .planned ≡ false)
+          → plannedAgainst (kindOf kind) size s targets false ≡ early
+      go (inl k) (inl v) = let more : meshOf kind size .links < length targets = omega (arith, planned-links kind size (known-planned kind size k v)) in
           simp (ne-eqb (length targets) 0 (λ z. omega arith), lt-ltb (meshOf kind size .links) (length targets) more)
-      go (inr u) = simp u
+      go (inl k) (inr v) = simp (k, v)
+      go (inr u) v = simp u
 
   -- so that nothing after the request is told
   many-code : listCode kind size s targets out ≡ coded early 0
   many-code = ap (λ (o : Option Refusal). coded o (sheetCode kind size (length targets) out)) many
-      ∙ go (not (known kind size)) (leb (meshOf kind size .relays) s) (sheetCode kind size (length targets) out)
+      ∙ go (not (known kind size)) (not (kindOf kind .planned)) (leb (meshOf kind size .relays) s) (sheetCode kind size (length targets) out)
     where
-      go : (u w : Bool) (n : ℕ) → coded (refuse u UnknownSize (refuse w SourceOut (some TooMany))) n ≡ coded (refuse u UnknownSize (refuse w SourceOut (some TooMany))) 0
-      go true w n = refl
-      go false true n = refl
-      go false false n = refl
+      go : (u v w : Bool) (n : ℕ) → coded (told-many u v w) n ≡ coded (told-many u v w) 0
+      go true v w n = refl
+      go false true w n = refl
+      go false false true n = refl
+      go false false false n = refl
 
 module _ (l : List ℕ) {k : ℕ} (e : k ≡ few (length l / 8)) where
   pub few-most : (k ≤ 33) × (k * 8 ≤ length l)
@@ -212,9 +222,9 @@ module _ (l : List ℕ) {k : ℕ} (e : k ≡ few (length l / 8)) where
 
 -- whether bytes can be read is looked at first
 readable : (kind size s : ℕ) (l out : List ℕ) {b : Bool} → b ≡ eqb (length l % 8) 0
-    → coded (refuse (not b) Unreadable (requestAgainst (kindOf kind) size s (targetsIn l) false)) (sheetCode kind size (length (targetsIn l)) out) ≡ planCode kind size s l out
+    → coded (refuse (not b) Unreadable (plannedAgainst (kindOf kind) size s (targetsIn l) false)) (sheetCode kind size (length (targetsIn l)) out) ≡ planCode kind size s l out
 readable kind size s l out e =
-    ap (λ (b : Bool). coded (refuse (not b) Unreadable (requestAgainst (kindOf kind) size s (targetsIn l) false)) (sheetCode kind size (length (targetsIn l)) out)) e
+    ap (λ (b : Bool). coded (refuse (not b) Unreadable (plannedAgainst (kindOf kind) size s (targetsIn l) false)) (sheetCode kind size (length (targetsIn l)) out)) e
 
 module _ (kind size s : ℕ) (l list : List ℕ) {k : ℕ} (e : k ≡ few (length l / 8)) (h : 33 ≤ length list) where
   -- what stands in the list
@@ -252,14 +262,15 @@ module _ (kind size s : ℕ) (l list : List ℕ) {k : ℕ} (e : k ≡ few (lengt
           let b = many-code kind size s (targetsIn l) out (more .1) in
           as-read (record {
             told = v .told ∙ a ∙ sym b;
-            answered = λ z. never (not (known kind size)) (leb (meshOf kind size .relays) s) (sym b ∙ z);
+            answered = λ z. never (not (known kind size)) (not (kindOf kind .planned)) (leb (meshOf kind size .relays) s) (sym b ∙ z);
             refused = λ ne. v .refused (λ z. ne (b ∙ sym a ∙ z));
           })
         where
-          never : {A : Type 0} (u w : Bool) → coded (refuse u UnknownSize (refuse w SourceOut (some TooMany))) 0 ≡ 0 → A
-          never true w z = absurd (code-some UnknownSize z)
-          never false true z = absurd (code-some SourceOut z)
-          never false false z = absurd (code-some TooMany z)
+          never : {A : Type 0} (u v w : Bool) → coded (told-many u v w) 0 ≡ 0 → A
+          never true v w z = absurd (code-some UnknownSize z)
+          never false true w z = absurd (code-some NotServed z)
+          never false false true z = absurd (code-some SourceOut z)
+          never false false false z = absurd (code-some TooMany z)
 
 -- bytes that are no multiple of 8
 pub unreadable : (kind size s : ℕ) (l out : List ℕ) {r : ℕ} → length l % 8 ≢ 0 → r ≡ codeOf (some Unreadable) → Planned (planCode kind size s l out) kind size s (targetsIn l) out r out

@@ -16,7 +16,7 @@ use Rattle.answers.specs.declared.Refusal.the-variants.{NoRoom}
 use Rattle.paths.specs.Mesh.{Mesh, width}
 use Rattle.paths.specs.Fan.{Fan}
 use Rattle.mesh.specs.Kinds.{Kind, kindOf, meshOf}
-use Rattle.mesh.specs.Says.{pairAgainst, requestFaultsIn, requestAgainst}
+use Rattle.mesh.specs.Says.{pairAgainst, plannedFaultsIn, plannedAgainst}
 use Rattle.sheet.specs.Format.{HEAD, relaysAt}
 use Rattle.sheet.specs.Says.{flawNumber, lone}
 use Rattle.sheet.specs.declared.Flaw.the-variants as flaw
@@ -75,13 +75,13 @@ abbrev pub sheetCode : (kind size k : ℕ) (out : List ℕ) → ℕ
 sheetCode kind size k out = pick (lone kind k) LONE (pick (ltb (length out) (most (meshOf kind size) k)) (codeOf (some NoRoom)) 0)
 
 module _ (kind size s : ℕ) where
-  -- 10, bytes that are no multiple of 8, and 1 to 7
+  -- 10, bytes that are no multiple of 8, and 1, 52, 2 to 7
   abbrev pub planFaults : (bytes : List ℕ) → List Fault
-  planFaults bytes = readFaults (not (eqb (length bytes % 8) 0)) ++ requestFaultsIn (kindOf kind) size s (targetsIn bytes) false
+  planFaults bytes = readFaults (not (eqb (length bytes % 8) 0)) ++ plannedFaultsIn (kindOf kind) size s (targetsIn bytes) false
 
-  -- what a list of targets is told: 1 to 7, 37, 8
+  -- what a list of targets is told: 1, 52, 2 to 7, 37, 8
   abbrev pub listCode : (targets out : List ℕ) → ℕ
-  listCode targets out = coded (requestAgainst (kindOf kind) size s targets false) (sheetCode kind size (length targets) out)
+  listCode targets out = coded (plannedAgainst (kindOf kind) size s targets false) (sheetCode kind size (length targets) out)
 
   -- 10 before these
   abbrev pub planCode : (bytes out : List ℕ) → ℕ

@@ -13,8 +13,10 @@ use Rattle.scan.specs.Scan.{pick}
 use Rattle.answers.specs.Order.{first, refuse-none}
 use Rattle.answers.specs.declared.Refusal.{Refusal}
 use Rattle.answers.specs.declared.Refusal.the-variants.{Unreadable}
-use Rattle.mesh.specs.Kinds.{kindOf}
-use Rattle.mesh.specs.Says.{requestAgainst}
+use Rattle.mesh.specs.Kinds.{kindOf, planned}
+use Rattle.mesh.specs.Says.{requestAgainst, plannedAgainst}
+use Rattle.mesh.specs.Requests.{plan-fine, plan-asked}
+use Rattle.mesh.specs.Laws.{known-planned}
 use Rattle.sheet.specs.Judging.{judged-told}
 use Rattle.sheet.specs.Says.{lone}
 use Rattle.sheet_write.specs.Says.{bytes}
@@ -43,8 +45,14 @@ module _ (kind size s : ℕ) (l out out₁ : List ℕ) {r : ℕ} (p : Planned (p
   parts : (first (planFaults kind size s l) ≡ none) × (sheetCode kind size (length (targetsIn l)) out ≡ 0)
   parts = coded-none (first (planFaults kind size s l)) (sheetCode kind size (length (targetsIn l)) out) o
 
+  asked-clear : plannedAgainst (kindOf kind) size s (targetsIn l) false ≡ none
+  asked-clear = refuse-none (not (eqb (length l % 8) 0)) Unreadable (plannedAgainst (kindOf kind) size s (targetsIn l) false) (parts .0) .1
+
   asked-fine : requestAgainst (kindOf kind) size s (targetsIn l) false ≡ none
-  asked-fine = refuse-none (not (eqb (length l % 8) 0)) Unreadable (requestAgainst (kindOf kind) size s (targetsIn l) false) (parts .0) .1
+  asked-fine = plan-asked (kindOf kind) size s (targetsIn l) asked-clear
+
+  asked-planned : planned kind size ≡ true
+  asked-planned = let (f, v) = plan-fine (kindOf kind) size s (targetsIn l) asked-clear in known-planned kind size (f .known) v
 
   several : lone kind (length (targetsIn l)) ≡ false
   several = not-lone (lone kind (length (targetsIn l))) _ (parts .1)
@@ -53,7 +61,7 @@ module _ (kind size s : ℕ) (l out out₁ : List ℕ) {r : ℕ} (p : Planned (p
   pub plan-reads : (take (length planned-sheet) out₁ ≡ planned-sheet) × ReadsBack kind size s (targetsIn l) (planned-fan .places) (planned-fan .counts) planned-sheet
   plan-reads = (
     ap (take (length planned-sheet)) (planned-fan .held) ∙ take-at planned-sheet (drop (length planned-sheet) out) (length planned-sheet) refl,
-    write-read kind size s (targetsIn l) (planned-fan .places) (planned-fan .counts)
+    write-read kind size s (targetsIn l) (planned-fan .places) (planned-fan .counts) asked-planned
         (judged-told (kindOf kind) size s (targetsIn l) (planned-fan .places) (planned-fan .counts)
         (record { request = asked-fine; room = planned-fan .placed; counted = planned-fan .counted; fan = planned-fan .fan })) several,
   )

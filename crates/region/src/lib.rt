@@ -44,7 +44,7 @@ pub fn next_hop(mesh: Mesh, source: u64, target: u64, out: &mut [u8]) -> u64
 
 // Plans a fan and writes its sheet at the front of `out`; what stands after it stays. The targets are numbers of 8 bytes, big-endian. In the cube of 1
 // dimension, from 0 to 1, the sheet is that of `sheet_write::write`: 26 bytes. Answers 0, or number * 256 + place, and then `out` stays as it was: 10 where the
-// target bytes are no multiple of 8, then 1 to 7, then 37 for a single target in a two-level mesh, then 8 where `out` is shorter than 16 + k * (2 + 8 * longest)
+// target bytes are no multiple of 8, then 1, 52, 2 to 7, then 37 for a single target in a two-level mesh, then 8 where `out` is shorter than 16 + k * (2 + 8 * longest)
 // bytes.
 pub fn plan(mesh: Mesh, source: u64, targets: &[u8], out: &mut [u8]) -> u64
     ensures { λ r. ⌜ Planned (planCode (mesh .kind) (mesh .size) source (now (targets .entry)) (now (out .entry))) (mesh .kind) (mesh .size) source (targetsIn (now (targets .entry))) (now (out .entry)) r (now (out .exit)) ⌝ }

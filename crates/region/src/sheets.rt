@@ -49,7 +49,7 @@ fn plan_list(
     requires { ⌜ Roomy (length (now places)) (length (now counts)) ⌝ }
     ensures { λ r. ⌜ Planned (listCode (mesh .kind) (mesh .size) source (now (targets .entry)) (now (out .entry))) (mesh .kind) (mesh .size) source (now (targets .entry)) (now (out .entry)) r (now (out .exit)) ⌝ }
 {
-    let checked = mesh::request(mesh, source, targets);
+    let checked = mesh::plan_request(mesh, source, targets);
     if let Checked::Refused(why) = checked {
         return code(why);
     }
@@ -63,7 +63,7 @@ fn plan_list(
     0
 }
 
-// How many targets are looked at: no relay has more than 32 links, so that what is said of 33 targets is said of more.
+// How many targets are looked at: no relay of a mesh that is planned has more than 32 links, so that what is said of 33 targets is said of more.
 fn looked_at(n: usize) -> usize
     ensures { λ r. ⌜ r ≡ few n ⌝ }
 {

@@ -11,6 +11,7 @@ use borrow.Author.Tests.{le-ltb, lt-leb}
 use Rattle.scan.specs.Scan.{pick, any}
 use Rattle.scan.specs.Laws.{false-any}
 use Rattle.answers.specs.Order.{refuse, before}
+use Rattle.answers.specs.Pairs.{room-last}
 use Rattle.answers.specs.Told.{told, against, answerTold}
 use Rattle.answers.specs.declared.Answer.{Answer}
 use Rattle.answers.specs.declared.Refusal.{Refusal}
@@ -20,9 +21,10 @@ use Rattle.answers.specs.declared.Checked.the-variants as checked
 use Rattle.paths.specs.Mesh.{Mesh, width}
 use Rattle.paths.specs.Fan.{hops, Fan}
 use Rattle.mesh.specs.Kinds.{Kind, kindOf, meshOf, known}
-use Rattle.mesh.specs.Says.{requestAgainst, short}
+use Rattle.mesh.specs.Says.{plannedAgainst, short}
 use Rattle.mesh.specs.Limits.{mostPlaces}
-use Rattle.mesh.specs.Requests.{Fine, request-room, request-fine}
+use Rattle.mesh.specs.Requests.{Fine, plannedEarly, plan-fine}
+use Rattle.mesh.specs.Laws.{known-planned}
 use Rattle.requests.specs.Planned.{Planned, planned-against}
 use Rattle.line.specs.Written.{fanText, refusedText, refusedRoom, overlong, fanRoom, wanting, writeTold, writeLeaves}
 use Rattle.reply.specs.Says.{Ruled, faultOf, AnswersTo, Said, replyRoom}
@@ -55,27 +57,27 @@ module _ (kind n s : ℕ) (targets places counts : List ℕ) (p : length places 
   abbrev k : ℕ
   k = length targets
 
-  fine-enough : Fine K n s targets → Enough k (width m)
-  fine-enough f = enough kind n k (f .known) (f .sound .few)
+  fine-enough : Fine K n s targets × (K .planned ≡ true) → Enough k (width m)
+  fine-enough (f, v) = enough kind n k (known-planned kind n (f .known) v) (f .sound .few)
 
-  fine-room : Fine K n s targets → short m k (length places) (length counts) ≡ false
+  fine-room : Fine K n s targets × (K .planned ≡ true) → short m k (length places) (length counts) ≡ false
   fine-room f =
       let e = fine-enough f in
       ap (λ (b : Bool). pick b true (ltb (length counts) k)) (le-ltb (length places) (k * width m) (omega (arith, e .places)))
       ∙ le-ltb (length counts) k (omega (arith, e .counts))
 
   -- the planner never wants room
-  room-unasked : requestAgainst K n s targets (short m k (length places) (length counts)) ≡ faultOf kind n s targets
+  room-unasked : plannedAgainst K n s targets (short m k (length places) (length counts)) ≡ faultOf kind n s targets
   room-unasked = go (faultOf kind n s targets) refl
     where
-      go : (o : Option Refusal) → faultOf kind n s targets ≡ o → requestAgainst K n s targets (short m k (length places) (length counts)) ≡ faultOf kind n s targets
-      go none e = ap (requestAgainst K n s targets) (fine-room (request-fine K n s targets e))
+      go : (o : Option Refusal) → faultOf kind n s targets ≡ o → plannedAgainst K n s targets (short m k (length places) (length counts)) ≡ faultOf kind n s targets
+      go none e = ap (plannedAgainst K n s targets) (fine-room (plan-fine K n s targets e))
       go (some why) e =
-          request-room K n s targets (short m k (length places) (length counts))
+          room-last (plannedEarly K n s targets) (short m k (length places) (length counts))
           ∙ ap (λ (o : Option Refusal). before o (refuse (short m k (length places) (length counts)) NoRoom none)) e ∙ sym e
 
   module _ {r : Checked} {places₁ counts₁ : List ℕ}
-      (w : Planned (requestAgainst K n s targets (short m k (length places) (length counts))) m s targets places counts r places₁ counts₁) where
+      (w : Planned (plannedAgainst K n s targets (short m k (length places) (length counts))) m s targets places counts r places₁ counts₁) where
     fault : {c : Checked} → r ≡ c → against c ≡ faultOf kind n s targets
     fault e = sym (ap against e) ∙ planned-against w ∙ room-unasked
 
@@ -83,11 +85,11 @@ module _ (kind n s : ℕ) (targets places counts : List ℕ) (p : length places 
     plan-refused {why} e t = record { said = refusedText why; ruled = subst (λ (o : Option Refusal). Ruled m s targets o (refusedText why)) (fault e) refl; says = t }
 
     module _ (e : r ≡ checked.Fine) where
-      planned-fine : Fine K n s targets
-      planned-fine = request-fine K n s targets (sym (fault e))
+      planned-fine : Fine K n s targets × (K .planned ≡ true)
+      planned-fine = plan-fine K n s targets (sym (fault e))
 
       pub plan-known : known kind n ≡ true
-      plan-known = planned-fine .known
+      plan-known = planned-fine .0 .known
 
       planned-fan : Fan m s targets places₁ counts₁
       planned-fan = w .paths (sym (planned-against w) ∙ ap against e)

@@ -14,7 +14,7 @@ use Rattle.answers.specs.declared.Refusal.the-variants.{Unreadable, NoRoom}
 use Rattle.paths.specs.Mesh.{Mesh, width}
 use Rattle.paths.specs.Fan.{Fan}
 use Rattle.mesh.specs.Kinds.{kindOf, meshOf}
-use Rattle.mesh.specs.Says.{requestAgainst}
+use Rattle.mesh.specs.Says.{plannedAgainst}
 use Rattle.line.specs.Text.{Request}
 use Rattle.line.specs.Parse.{asked}
 use Rattle.line.specs.Written.{fanText, refusedText}
@@ -33,9 +33,9 @@ abbrev pub Ruled : (m : Mesh) (s : ℕ) (targets : List ℕ) → Option Refusal 
 Ruled m s targets none said = FanSaid m s targets said
 Ruled m s targets (some why) said = said ≡ refusedText why
 
--- what stands against a request: 1 to 7
+-- what stands against a request: 1, 52, 2 to 7
 abbrev pub faultOf : (kind size source : ℕ) (targets : List ℕ) → Option Refusal
-faultOf kind size source targets = requestAgainst (kindOf kind) size source targets false
+faultOf kind size source targets = plannedAgainst (kindOf kind) size source targets false
 
 abbrev pub AnswersTo : (kind size source : ℕ) (targets said : List ℕ) → Type 0
 AnswersTo kind size source targets said = Ruled (meshOf kind size) source targets (faultOf kind size source targets) said

@@ -30,6 +30,12 @@ true-false p q = let z : _≡_ {A = ℕ} 0 1 = sym (ap number q) ∙ ap number p
 pub not-true : {b : Bool} → (b ≡ true → ⊥) → b ≡ false
 not-true {b} h = ⊎-elim (λ t. absurd (h t)) (λ f. f) (true-or b)
 
+-- two tests that follow from each other
+pub tests-same : (a b : Bool) → (a ≡ true → b ≡ true) → (b ≡ true → a ≡ true) → a ≡ b
+tests-same true b f g = sym (f refl)
+tests-same false true f g = g refl
+tests-same false false f g = refl
+
 pub both-true : (a b : Bool) → (a && b) ≡ true → (a ≡ true) × (b ≡ true)
 both-true true b e = (refl, e)
 both-true false b e = absurd (true-false e refl)

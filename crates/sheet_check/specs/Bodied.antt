@@ -11,7 +11,8 @@ use lib.Dec.{eqb, ltb}
 use lib.ListN.{length}
 use borrow.Author.Tests.{eqb-false, ltb-false, not-false}
 use Rattle.paths.specs.Mesh.{Mesh, width}
-use Rattle.mesh.specs.Kinds.{meshOf, known}
+use Rattle.mesh.specs.Kinds.{meshOf, known, planned}
+use Rattle.mesh.specs.Laws.{planned-known}
 use Rattle.mesh.specs.Limits.{known-width}
 use Rattle.mesh.specs.Requests.{neither-wanting}
 use Rattle.mesh.specs.declared.Mesh as code
@@ -45,19 +46,22 @@ module _ (l : List ℕ) where
 -- ---- what a head with nothing wrong says
 
 module _ {l : List ℕ} {kind size s k : ℕ} (b : Bodied l kind size s k) where
-  faultless : (cut l ≡ false) × (known (kindAt l) (sizeAt l) ≡ true) × (badCount (meshAt l .links) (countAt l) ≡ false)
+  faultless : (cut l ≡ false) × (planned (kindAt l) (sizeAt l) ≡ true) × (badCount (meshAt l .links) (countAt l) ≡ false)
   faultless =
       let p = flawed-none (cut l) flaw.Cut _ (b .head) in
       let q = flawed-none (not (eqb (versionAt l) VERSION)) flaw.Version _ (p .1) in
-      let r = flawed-none (not (known (kindAt l) (sizeAt l))) flaw.NoMesh _ (q .1) in
+      let r = flawed-none (not (planned (kindAt l) (sizeAt l))) flaw.NoMesh _ (q .1) in
       let t = flawed-none (badCount (meshAt l .links) (countAt l)) flaw.Paths _ (r .1) in
-      (p .0, not-false (known (kindAt l) (sizeAt l)) (r .0), t .0)
+      (p .0, not-false (planned (kindAt l) (sizeAt l)) (r .0), t .0)
 
   pub mesh-is : meshOf kind size ≡ meshAt l
   mesh-is = ap₂ meshOf (b .kind-is) (b .size-is)
 
+  pub body-planned : planned kind size ≡ true
+  body-planned = ap₂ planned (b .kind-is) (b .size-is) ∙ faultless .1
+
   pub body-known : known kind size ≡ true
-  body-known = ap₂ known (b .kind-is) (b .size-is) ∙ faultless .1
+  body-known = planned-known kind size body-planned
 
   counted : (eqb (countAt l) 0 ≡ false) × (ltb (meshAt l .links) (countAt l) ≡ false)
   counted = neither-wanting (eqb (countAt l) 0) (ltb (meshAt l .links) (countAt l)) refl (faultless .2)

@@ -13,7 +13,7 @@ use borrow.Author.Tests.{eq-eqb, ne-eqb}
 use Rattle.scan.specs.Scan.{pick}
 use Rattle.paths.specs.Mesh.{Mesh}
 use Rattle.mesh.specs.Kinds.{meshOf}
-use Rattle.mesh.specs.Limits.{mostLinks, mostPlaces, known-links, known-width, known-places}
+use Rattle.mesh.specs.Limits.{mostLinks, mostPlaces, planned-links, known-width, planned-places}
 use Rattle.mesh.specs.declared.Mesh as code
 use Rattle.judge.specs.Says.{Ruling, ruling, numberOf, pathOf, placeOf}
 use Rattle.sheet.specs.Format.{HEAD, kindAt, sizeAt, countAt, pathsAt}
@@ -22,7 +22,7 @@ use Rattle.sheet.specs.declared.Flaw.{Flaw}
 use Rattle.sheet_take.specs.Says.{looked}
 use Rattle.sheet_check.specs.Says.{rulingOf, flawIn, ruled, meshAt, sheetRuling, pathsAgainst, sheetTold}
 use Rattle.sheet_check.specs.Needs.{Bodied, Judgeable}
-use Rattle.sheet_check.specs.Bodied.{mesh-is, body-known, body-few}
+use Rattle.sheet_check.specs.Bodied.{mesh-is, body-planned, body-known, body-few}
 use Rattle.sheet.specs.declared.Reading.the-variants as reading
 
 -- number, path and place are all that a ruling has
@@ -48,9 +48,9 @@ module _ {l : List ℕ} {kind size s k : ℕ} (b : Bodied l kind size s k) {long
           taken = record {
             sound = sym h;
             small = omega (arith, e, known-width kind size (body-known b));
-            room = omega (arith, all, known-places kind size (body-known b), ap (λ (x : ℕ). meshOf kind size .links * (x + 1)) e);
-            counted = omega (arith, body-few b, known-links kind size (body-known b));
-            aimed = omega (arith, body-few b, known-links kind size (body-known b));
+            room = omega (arith, all, planned-places kind size (body-planned b), ap (λ (x : ℕ). meshOf kind size .links * (x + 1)) e);
+            counted = omega (arith, body-few b, planned-links kind size (body-planned b));
+            aimed = omega (arith, body-few b, planned-links kind size (body-planned b));
           };
         }
 

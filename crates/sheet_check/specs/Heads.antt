@@ -9,7 +9,7 @@ use lib.Dec.{eqb, ltb}
 use lib.ListN.{length}
 use borrow.Author.Tests.{lt-ltb, le-ltb, eq-eqb, ne-eqb}
 use Rattle.scan.specs.Scan.{pick}
-use Rattle.mesh.specs.Kinds.{known}
+use Rattle.mesh.specs.Kinds.{planned}
 use Rattle.sheet.specs.Format.{VERSION, HEAD, lengthAt, versionAt, kindAt, sizeAt, countAt}
 use Rattle.sheet.specs.Says.{flawed, lone}
 use Rattle.sheet.specs.declared.Flaw.the-variants as flaw
@@ -41,7 +41,7 @@ module _ (kind links k : ℕ) where
 -- ---- the head
 
 module _ (l : List ℕ) where
-  head-is : {a b c : Bool} → cut l ≡ a → not (eqb (versionAt l) VERSION) ≡ b → not (known (kindAt l) (sizeAt l)) ≡ c
+  head-is : {a b c : Bool} → cut l ≡ a → not (eqb (versionAt l) VERSION) ≡ b → not (planned (kindAt l) (sizeAt l)) ≡ c
       → flawed a flaw.Cut (flawed b flaw.Version (flawed c flaw.NoMesh (countAgainst (kindAt l) (meshAt l .links) (countAt l)))) ≡ headAgainst l
   head-is {a} {b} {c} p q r =
       ap (λ (x : Bool). flawed x flaw.Cut (flawed b flaw.Version (flawed c flaw.NoMesh (countAgainst (kindAt l) (meshAt l .links) (countAt l))))) (sym p)
@@ -68,7 +68,7 @@ module _ (l : List ℕ) where
       pub head-version : versionAt l ≢ VERSION → some flaw.Version ≡ headAgainst l
       head-version ne = head-is uncut (ap not (ne-eqb (versionAt l) VERSION ne)) refl
 
-      module _ (v : versionAt l ≡ VERSION) {r : Bool} (k : r ≡ known (kindAt l) (sizeAt l)) where
+      module _ (v : versionAt l ≡ VERSION) {r : Bool} (k : r ≡ planned (kindAt l) (sizeAt l)) where
         pub head-unknown : r ≡ false → some flaw.NoMesh ≡ headAgainst l
         head-unknown f = head-is uncut (ap not (eq-eqb (versionAt l) VERSION v)) (ap not (sym k ∙ f))
 

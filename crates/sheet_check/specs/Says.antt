@@ -8,7 +8,7 @@ use lib.Dec.{eqb, ltb}
 use lib.ListN.{length}
 use Rattle.scan.specs.Scan.{pick}
 use Rattle.paths.specs.Mesh.{Mesh}
-use Rattle.mesh.specs.Kinds.{kindOf, meshOf, known}
+use Rattle.mesh.specs.Kinds.{kindOf, meshOf, planned}
 use Rattle.judge.specs.Says.{Ruling, ruling, numberOf, judgeTold}
 use Rattle.sheet.specs.Format.{VERSION, HEAD, lengthAt, versionAt, kindAt, sizeAt, countAt, sourceAt, pathsAt, placesOf, countsOf, targetsOf}
 use Rattle.sheet.specs.Says.{flawed, before, lone, ReadTold, tellRead}
@@ -68,7 +68,7 @@ module _ (l : List ℕ) where
   headAgainst =
       flawed (cut l) flaw.Cut
       (flawed (not (eqb (versionAt l) VERSION)) flaw.Version
-      (flawed (not (known (kindAt l) (sizeAt l))) flaw.NoMesh
+      (flawed (not (planned (kindAt l) (sizeAt l))) flaw.NoMesh
       (countAgainst (kindAt l) (meshAt .links) (countAt l))))
 
   -- what the judge says of the request and the paths

@@ -21,7 +21,7 @@ use Rattle.paths.specs.Fan.{filler, relay, hops}
 use Rattle.paths.specs.Finding.{Finding, clean, found, report, report-at, unlinkedAt, seenAt, unfilled, unfilledAt, findingOf, findingFrom, findingBy, finding}
 use Rattle.paths.specs.Mesh.{Mesh, width}
 use Rattle.paths.specs.Rules.{fanRules}
-use Rattle.mesh.specs.Kinds.{kindOf, meshOf, known}
+use Rattle.mesh.specs.Kinds.{kindOf, meshOf, known, planned}
 use Rattle.mesh.specs.Says.{short}
 use Rattle.judge.specs.Alike.{enough}
 use Rattle.judge.specs.Says.{Ruling, ruling, numberOf, rule, judgeAgainst}
@@ -190,7 +190,7 @@ module _ (l : List ℕ) where
 
   pub listed-head : Listed (headAgainst l)
   unfolding has among any seek
-  listed-head = go (cut l) (not (eqb (versionAt l) VERSION)) (not (known (kindAt l) (sizeAt l))) (badCount (meshAt l .links) (countAt l)) (lone (kindAt l) (countAt l))
+  listed-head = go (cut l) (not (eqb (versionAt l) VERSION)) (not (planned (kindAt l) (sizeAt l))) (badCount (meshAt l .links) (countAt l)) (lone (kindAt l) (countAt l))
     where
       go : (a b c d e : Bool) → Listed (flawed a flaw.Cut (flawed b flaw.Version (flawed c flaw.NoMesh (flawed d flaw.Paths (flawed e flaw.Lone none)))))
       go true b c d e = refl

@@ -1,7 +1,7 @@
 // The head of a sheet read.
 ghost use mathlib.Core.Path.{_≡_};
 ghost use mathlib.Core.Bool.{true};
-ghost use Rattle.mesh.specs.Kinds.{meshOf, known};
+ghost use Rattle.mesh.specs.Kinds.{meshOf, planned};
 ghost use Rattle.sheet.specs.Says.{readingTold, tellRead};
 ghost use Rattle.sheet_check.specs.Says.{sheetTold, headAgainst, countAgainst};
 use mesh::Mesh;
@@ -10,7 +10,7 @@ use sheet::Reading;
 
 // The mesh, the source and how many paths, where so many can be asked for.
 fn counted(mesh: Mesh, source: u64, k: usize) -> Reading
-    requires { ⌜ known (mesh .kind) (mesh .size) ≡ true ⌝ }
+    requires { ⌜ planned (mesh .kind) (mesh .size) ≡ true ⌝ }
     ensures { λ r. ⌜ readingTold r ≡ tellRead (countAgainst (mesh .kind) (meshOf (mesh .kind) (mesh .size) .links) k) (mesh .kind) (mesh .size) source k ⌝ }
 {
     if k == 0 {
@@ -44,7 +44,7 @@ pub fn head(bytes: &[u8]) -> Reading
         kind: bytes[5] as u64,
         size: bytes[6] as u64,
     };
-    if mesh.known() {
+    if mesh.planned() {
         return counted(mesh, octets::number(bytes, 8, 8), bytes[7] as usize);
     }
     Reading::Refused(Flaw::NoMesh)

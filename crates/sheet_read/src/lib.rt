@@ -50,7 +50,7 @@ fn body(
 
 // Reads one sheet, and fills the places with its paths, source first and 2^64 - 1 after the end of each, the counts with their hops and the targets with their
 // last relays; what lies beyond them stays. Gives the mesh, the source and how many paths. Path i begins at place i * W, where W is `mesh.places()`. Refuses, in
-// this order, with 30 (fewer than 16 bytes, or a wrong length field), 31, 32, 33, 8, path by path 30 (its two bytes of hops are missing), 34 and 30 (its
+// this order, with 30 (fewer than 16 bytes, or a wrong length field), 31, 32, 33, 37, 8, path by path 30 (its two bytes of hops are missing), 34 and 30 (its
 // relays run out), 36, then 2, 5, 6, 7 with their place, 22 and 24 path by path with path and place, and then changes nothing.
 pub fn read(bytes: &[u8], places: &mut [u64], counts: &mut [u64], targets: &mut [u64]) -> Reading
     ensures { λ r. ⌜ Read (now (bytes .entry)) (now (places .entry)) (now (counts .entry)) (now (targets .entry)) r (now (places .exit)) (now (counts .exit)) (now (targets .exit)) ⌝ }

@@ -11,7 +11,7 @@ use lib.ListN.{length}
 use borrow.Author.Tests.{ltb-false, le-ltb, eqb-true, eqb-false, eq-eqb, ne-eqb, not-false}
 use Rattle.scan.specs.Scan.{pick}
 use Rattle.paths.specs.Mesh.{width}
-use Rattle.mesh.specs.Kinds.{kindOf, known}
+use Rattle.mesh.specs.Kinds.{kindOf, planned}
 use Rattle.mesh.specs.Requests.{neither-wanting, room-enough}
 use Rattle.mesh.specs.Says.{short}
 use Rattle.judge.specs.Alike.{enough}
@@ -30,7 +30,7 @@ pub record Accepted (l : List ℕ) (places counts targets : ℕ) : Type 0 where
   pub long : HEAD ≤ length l
   pub counted : lengthAt l ≡ length l - 4
   pub version : versionAt l ≡ VERSION
-  pub known-mesh : known (kindAt l) (sizeAt l) ≡ true
+  pub known-mesh : planned (kindAt l) (sizeAt l) ≡ true
   pub some-path : countAt l ≢ 0
   pub few : countAt l ≤ meshAt l .links
   pub not-lone : lone (kindAt l) (countAt l) ≡ false
@@ -64,7 +64,7 @@ module _ (l : List ℕ) (places counts targets : ℕ) where
       let h = before-none (headAgainst l) _ e in
       let cut-not = flawed-none (cut l) flaw.Cut _ (h .0) in
       let version-not = flawed-none (not (eqb (versionAt l) VERSION)) flaw.Version _ (cut-not .1) in
-      let mesh-not = flawed-none (not (known (kindAt l) (sizeAt l))) flaw.NoMesh _ (version-not .1) in
+      let mesh-not = flawed-none (not (planned (kindAt l) (sizeAt l))) flaw.NoMesh _ (version-not .1) in
       let paths-not = flawed-none (badCount (m .links) k) flaw.Paths _ (mesh-not .1) in
       let lone-not = flawed-none (lone (kindAt l) k) flaw.Lone none (paths-not .1) in
       let room-not = flawed-none (lacking l places counts targets) flaw.NoRoom _ (h .1) in
@@ -77,7 +77,7 @@ module _ (l : List ℕ) (places counts targets : ℕ) where
         long = ltb-false (length l) HEAD (c .0);
         counted = eqb-true (lengthAt l) (length l - 4) (not-false _ (c .1));
         version = eqb-true (versionAt l) VERSION (not-false _ (version-not .0));
-        known-mesh = not-false (known (kindAt l) (sizeAt l)) (mesh-not .0);
+        known-mesh = not-false (planned (kindAt l) (sizeAt l)) (mesh-not .0);
         some-path = eqb-false k 0 (p .0);
         few = ltb-false (m .links) k (p .1);
         not-lone = lone-not .0;

@@ -2,7 +2,7 @@
 -- (`written-reads`); and what the reader reads is written back, byte for byte (`read-writes`). Assumes nothing.
 use Prim.Native.Nat.{ℕ, _*_, _≤_}
 use mathlib.Core.Path.{_≡_, refl, sym, ap, ap₂, _∙_, subst}
-use mathlib.Core.Bool.{false}
+use mathlib.Core.Bool.{true, false}
 use mathlib.Core.List.{List, _++_}
 use mathlib.Core.Option.{Option, none, some}
 use lib.ListN.{length, take, drop}
@@ -10,7 +10,7 @@ use lib.Seq.{take-at, length-take-le}
 use borrow.Author.Tests.{eqb-false}
 use Rattle.octets.specs.Big.{Bytes}
 use Rattle.paths.specs.Mesh.{width}
-use Rattle.mesh.specs.Kinds.{kindOf, meshOf}
+use Rattle.mesh.specs.Kinds.{kindOf, meshOf, planned}
 use Rattle.mesh.specs.declared.Mesh as code
 use Rattle.judge.specs.Says.{numberOf, judgeTold}
 use Rattle.sheet.specs.Flaws.{flaw-some}
@@ -20,6 +20,7 @@ use Rattle.sheet.specs.Lengths.{paths-length, targets-length}
 use Rattle.sheet.specs.Says.{settled, lone, flawNumber, wrote, tellWritten, reads, tellRead}
 use Rattle.sheet.specs.declared.Flaw.{Flaw}
 use Rattle.sheet_write.specs.Says.{sheet, ruled, writeAgainst, Wrote}
+use Rattle.sheet_write.specs.Writing.{ruled-fan}
 use Rattle.sheet_write.specs.Unique.{wrote-unique}
 use Rattle.sheet.specs.declared.Written.{Written}
 use Rattle.sheet.specs.declared.Written.the-variants as written
@@ -57,14 +58,16 @@ module _ (kind size s : ℕ) (targets places counts out : List ℕ) where
 
   -- the bytes that the writer counts are the sheet, the judge found a fan, and the path is no lone one
   pub written-is : (n : ℕ) (out₁ : List ℕ) → Wrote kind size s targets places counts out (written.Bytes n) out₁
-      → (take n out₁ ≡ sheet kind size s targets places counts out) × (numberOf (judgeTold (kindOf kind) size s targets places counts false) ≡ 0)
-      × (lone kind k ≡ false)
+      → (take n out₁ ≡ sheet kind size s targets places counts out) × (planned kind size ≡ true)
+      × (numberOf (judgeTold (kindOf kind) size s targets places counts false) ≡ 0) × (lone kind k ≡ false)
   written-is n out₁ v =
       let l = sheet kind size s targets places counts out in
       let fine = wrote-fine (writeAgainst kind size s targets places counts out) n (length l) (v .told) in
-      let granted = write-granted (lone kind k) (ruled kind size s targets places counts out) (length l) (length out) (fine .0) in (
+      let granted = write-granted (lone kind k) (ruled kind size s targets places counts) (length l) (length out) (fine .0) in
+      let (p, found) = ruled-fan kind size s targets places counts (granted .1) in (
         ap (take n) (v .held ∙ ap (λ (o : Option Flaw). settled o (l ++ drop (length l) out) out) (fine .0)) ∙ take-at l (drop (length l) out) n (sym (fine .1)),
-        granted .1,
+        p,
+        found,
         granted .0,
       )
 
@@ -98,7 +101,7 @@ module _ (kind size s : ℕ) (targets places counts out : List ℕ) where
       → (r : Reading) (places₁ counts₁ targets₁ : List ℕ) → Read (take n out₁) more others ends r places₁ counts₁ targets₁ → SameFan more others ends r places₁ counts₁ targets₁
   written-reads n out₁ v more others ends a b c r places₁ counts₁ targets₁ u =
       let is = written-is n out₁ v in
-      fan-read (is .1) (sheet kind size s targets places counts out) (write-read kind size s targets places counts (is .1) (is .2)) more others ends a b c r places₁ counts₁ targets₁
+      fan-read (is .2) (sheet kind size s targets places counts out) (write-read kind size s targets places counts (is .1) (is .2) (is .3)) more others ends a b c r places₁ counts₁ targets₁
       (subst (λ (l : List ℕ). Read l more others ends r places₁ counts₁ targets₁) (is .0) u)
 
 -- ---- read, then written

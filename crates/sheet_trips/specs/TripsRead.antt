@@ -2,7 +2,7 @@
 -- nothing.
 use Prim.Native.Nat.{ℕ, _+_, _*_, _^_, _≤_, _<_}
 use mathlib.Core.Path.{_≡_, sym, ap, ap₂, _∙_, subst}
-use mathlib.Core.Bool.{false}
+use mathlib.Core.Bool.{true, false}
 use mathlib.Core.List.{List, [], append-nil}
 use mathlib.Core.Option.{none}
 use native.Mathlib.Nat.{mul-le-mul}
@@ -10,8 +10,8 @@ use native.Mathlib.Omega.{arith}
 use lib.ListN.{length, take}
 use lib.Seq.{getD-take, length-take-le}
 use Rattle.paths.specs.Mesh.{Mesh, width}
-use Rattle.mesh.specs.Kinds.{kindOf, meshOf, known}
-use Rattle.mesh.specs.Limits.{known-links, known-width, known-relays}
+use Rattle.mesh.specs.Kinds.{kindOf, meshOf, planned}
+use Rattle.mesh.specs.Limits.{planned-links, known-width, known-relays}
 use Rattle.mesh.specs.Requests.{Fine}
 use Rattle.judge.specs.Says.{numberOf, judgeTold}
 use Rattle.sheet.specs.Format.{HEAD, pathsBytes, sheetOf, kindAt, sizeAt, countAt, sourceAt, pathsAt, placesOf, countsOf, targetsOf, pathsOf}
@@ -44,7 +44,7 @@ pub record ReadsBack (kind size s : ℕ) (targets places counts l : List ℕ) : 
   -- nothing stands against it where there is room
   pub no-flaw : (p c t : ℕ) → length targets * width (meshOf kind size) ≤ p → length targets ≤ c → length targets ≤ t → readAgainst l p c t ≡ none
 
-module _ (kind size s : ℕ) (targets places counts : List ℕ) (e : numberOf (judgeTold (kindOf kind) size s targets places counts false) ≡ 0)
+module _ (kind size s : ℕ) (targets places counts : List ℕ) (p : planned kind size ≡ true) (e : numberOf (judgeTold (kindOf kind) size s targets places counts false) ≡ 0)
     (several : lone kind (length targets) ≡ false) where
   abbrev m : Mesh
   m = meshOf kind size
@@ -79,7 +79,7 @@ module _ (kind size s : ℕ) (targets places counts : List ℕ) (e : numberOf (j
   few-bytes : 12 + bytesOf ps < 256 ^ 4
   few-bytes =
       let within = within-of m s places counts targets (is-judged .fan) in
-      let few : length ps ≤ 32 = omega (arith, how-many, fine .sound .few, known-links kind size (fine .known)) in
+      let few : length ps ≤ 32 = omega (arith, how-many, fine .sound .few, planned-links kind size p) in
       let path : 2 + 8 * m .longest ≤ 1650 = omega (arith, few-hops) in
       omega (arith, bytes-most (m .longest) ps within, mul-le-mul few path)
 
@@ -127,16 +127,16 @@ module _ (kind size s : ℕ) (targets places counts : List ℕ) (e : numberOf (j
         ∙ ap₂ (ruling kind size s targets) same-places same-counts
         ∙ judged-told (kindOf kind) size s targets (take (k * w) places) (take k counts) taken
 
-    is-accepted : (p c t : ℕ) → k * w ≤ p → k ≤ c → k ≤ t → Accepted l p c t
-    is-accepted p c t a b d = record {
+    is-accepted : (q c t : ℕ) → k * w ≤ q → k ≤ c → k ≤ t → Accepted l q c t
+    is-accepted q c t a b d = record {
       long = h .long;
       counted = h .counted;
       version = h .version;
-      known-mesh = ap₂ known (h .kind-is) (h .size-is) ∙ fine .known;
+      known-mesh = ap₂ planned (h .kind-is) (h .size-is) ∙ p;
       some-path = λ z. omega (arith, z, same-count, fine .sound .some-target);
       few = subst (λ (n : Mesh). countAt l ≤ n .links) (sym same-mesh) (omega (arith, same-count, fine .sound .few));
       not-lone = ap₂ lone (h .kind-is) same-count ∙ several;
-      room = subst (λ (n : Mesh). countAt l * width n ≤ p) (sym same-mesh) (subst (λ (c : ℕ). c * w ≤ p) (sym same-count) a);
+      room = subst (λ (n : Mesh). countAt l * width n ≤ q) (sym same-mesh) (subst (λ (c : ℕ). c * w ≤ q) (sym same-count) a);
       room-counts = omega (arith, same-count);
       room-targets = omega (arith, same-count);
       looks = looks;
@@ -153,7 +153,7 @@ module _ (kind size s : ℕ) (targets places counts : List ℕ) (e : numberOf (j
       targets-are = same-targets;
       places-are = same-places;
       counts-are = same-counts;
-      no-flaw = λ p c t a b d. accepts l p c t (is-accepted p c t a b d);
+      no-flaw = λ q c t a b d. accepts l q c t (is-accepted q c t a b d);
     }
 
   pub write-read : ReadsBack kind size s targets places counts (sheetOf kind size s ps)

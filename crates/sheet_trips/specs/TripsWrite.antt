@@ -15,7 +15,8 @@ use Rattle.sheet.specs.Judging.{judged, judged-told, judged-same}
 use Rattle.sheet.specs.Lengths.{paths-length, counts-length, targets-length}
 use Rattle.sheet.specs.Lent.{Within, places-length, paths-lent}
 use Rattle.sheet.specs.Says.{lone}
-use Rattle.sheet_write.specs.Says.{sheet, writeAgainst}
+use Rattle.sheet_write.specs.Says.{sheet, ruled, writeAgainst}
+use Rattle.sheet_write.specs.Writing.{fan-ruled}
 use Rattle.sheet_take.specs.Looking.{looked-within}
 use Rattle.sheet_check.specs.Says.{meshAt, sheetPaths, sheetTargets, sheetPlaces, sheetCounts}
 use Rattle.sheet_read.specs.Says.{readAgainst}
@@ -84,6 +85,7 @@ module _ (l : List ℕ) (b : Bytes l) (p c t : ℕ) (e : readAgainst l p c t ≡
     read-write out = record {
       bytes-are = same-bytes;
       no-flaw = λ h.
-          write-grants (lone (kindAt l) k) (numberOf (judgeTold (kindOf (kindAt l)) (sizeAt l) (sourceAt l) (sheetTargets l) places counts false))
-          (length (sheetOf (kindAt l) (sizeAt l) (sourceAt l) (pathsOf w places counts k))) (length out) several is-fan (omega (arith, ap length same-bytes));
+          write-grants (lone (kindAt l) k) (ruled (kindAt l) (sizeAt l) (sourceAt l) (sheetTargets l) places counts)
+          (length (sheetOf (kindAt l) (sizeAt l) (sourceAt l) (pathsOf w places counts k))) (length out) several
+          (fan-ruled (kindAt l) (sizeAt l) (sourceAt l) (sheetTargets l) places counts (is-accepted .known-mesh) is-fan) (omega (arith, ap length same-bytes));
     }

@@ -15,7 +15,7 @@ use Rattle.paths.specs.Mesh.{width}
 use Rattle.cube.specs.Sizes.{known-most}
 use Rattle.two_parts.specs.Parts.{known-bounds}
 use Rattle.mesh.specs.Kinds.{Kind, meshOf}
-use Rattle.mesh.specs.Laws.{known-case}
+use Rattle.mesh.specs.Laws.{planned-case}
 use Rattle.sheet.specs.Format.{pathsBytes, pathsOf}
 use Rattle.sheet.specs.Lengths.{sheet-length, pathsFrom-length}
 use Rattle.sheet.specs.Says.{flawed, settled, wrote, tellWritten}
@@ -43,7 +43,7 @@ module _ (kind size s k : ℕ) (places counts out : List ℕ) (a : Sheeted kind 
 
   -- kind, size and how many paths take a byte each
   single : (kind < 256) × (size < 256)
-  single = known-case kind size (a .known) (λ (k : ℕ) (K : Kind). (k < 256) × (size < 256))
+  single = planned-case kind size (a .planned) (λ (k : ℕ) (K : Kind). (k < 256) × (size < 256))
       (λ h. let most = known-most size refl h in (omega arith, omega arith))
       (λ h. let most = known-bounds size h .1 in (omega arith, omega arith))
 

@@ -9,7 +9,7 @@ use lib.Dec.{eqb, ltb}
 use lib.ListN.{length, drop}
 use Rattle.scan.specs.Scan.{pick}
 use Rattle.paths.specs.Mesh.{width}
-use Rattle.mesh.specs.Kinds.{kindOf, meshOf}
+use Rattle.mesh.specs.Kinds.{kindOf, meshOf, planned}
 use Rattle.judge.specs.Says.{numberOf, judgeTold}
 use Rattle.sheet.specs.Format.{sheetOf, pathsOf}
 use Rattle.sheet.specs.Says.{flawed, settled, lone, tellWritten, writtenTold}
@@ -30,20 +30,20 @@ module _ (kind size s k : ℕ) (places counts out : List ℕ) where
     pub told : writtenTold r ≡ tellWritten putAgainst (length (bytes kind size s k places counts))
     pub held : out₁ ≡ settled putAgainst (bytes kind size s k places counts ++ drop (length (bytes kind size s k places counts)) out) out
 
+-- what the judge says of a mesh that has sheets: 0 of a fan, 8 where it lacks room, else 35; of another mesh 35
+abbrev pub ruled : (kind size s : ℕ) (targets places counts : List ℕ) → ℕ
+ruled kind size s targets places counts = pick (planned kind size) (numberOf (judgeTold (kindOf kind) size s targets places counts false)) 1
+
 module _ (kind size s : ℕ) (targets places counts out : List ℕ) where
   -- the sheet of the paths
   abbrev pub sheet : List ℕ
   sheet = sheetOf kind size s (pathsOf (width (meshOf kind size)) places counts (length targets))
 
-  -- what the judge says: 0 of a fan, 8 where it lacks room, else 35
-  abbrev pub ruled : ℕ
-  ruled = numberOf (judgeTold (kindOf kind) size s targets places counts false)
-
   -- what the judge says, and then room
   abbrev pub fanAgainst : Option Flaw
   fanAgainst =
-      pick (eqb ruled 0) (flawed (ltb (length out) (length sheet)) flaw.NoRoom none)
-      (pick (eqb ruled 8) (some flaw.NoRoom) (some flaw.NotAFan))
+      pick (eqb (ruled kind size s targets places counts) 0) (flawed (ltb (length out) (length sheet)) flaw.NoRoom none)
+      (pick (eqb (ruled kind size s targets places counts) 8) (some flaw.NoRoom) (some flaw.NotAFan))
 
   -- 37 before everything else
   abbrev pub writeAgainst : Option Flaw

@@ -1,7 +1,7 @@
 -- Why the writer keeps its promise: a fan can be written (`judged-sheeted`, `fan-sheeted`); what is told of a lone path (`wrote-lone`), and else
 -- by what the judge says (`wrote-fan`, `wrote-short`, `wrote-not`). Assumes nothing.
 use Prim.Native.Nat.{ℕ}
-use mathlib.Core.Path.{_≡_, sym, ap, _∙_}
+use mathlib.Core.Path.{_≡_, refl, sym, ap, ap₂, _∙_}
 use mathlib.Core.Bool.{Bool, true, false}
 use mathlib.Core.List.{List, _++_}
 use mathlib.Core.Logic.{_≢_}
@@ -11,8 +11,9 @@ use lib.Dec.{eqb}
 use lib.ListN.{length, drop}
 use borrow.Author.Tests.{eq-eqb, ne-eqb}
 use Rattle.scan.specs.Scan.{pick}
-use Rattle.mesh.specs.Kinds.{kindOf}
-use Rattle.mesh.specs.Limits.{known-links, known-width}
+use Rattle.mesh.specs.Kinds.{kindOf, planned}
+use Rattle.mesh.specs.Limits.{planned-links, known-width}
+use Rattle.judge.specs.Says.{numberOf, judgeTold}
 use Rattle.sheet.specs.Judging.{Judged, judged, judged-fine}
 use Rattle.sheet.specs.Says.{flawed, settled, lone, tellWritten}
 use Rattle.sheet.specs.declared.Flaw.{Flaw}
@@ -22,15 +23,29 @@ use Rattle.sheet_write.specs.Says.{sheet, ruled, fanAgainst, writeAgains
 use Rattle.sheet.specs.declared.Written.{Written}
 use Rattle.sheet.specs.declared.Written.the-variants as written
 
+-- the judge tells 0 of what can be written, and its mesh has sheets
+pub ruled-fan : (kind size s : ℕ) (targets places counts : List ℕ) → ruled kind size s targets places counts ≡ 0
+    → (planned kind size ≡ true) × (numberOf (judgeTold (kindOf kind) size s targets places counts false) ≡ 0)
+ruled-fan kind size s targets places counts = go (planned kind size) (numberOf (judgeTold (kindOf kind) size s targets places counts false))
+  where
+    go : (b : Bool) (n : ℕ) → pick b n 1 ≡ 0 → (b ≡ true) × (n ≡ 0)
+    go true n e = (refl, e)
+    go false n e = absurd (omega (arith, e))
+
+pub fan-ruled : (kind size s : ℕ) (targets places counts : List ℕ) → planned kind size ≡ true → numberOf (judgeTold (kindOf kind) size s targets places counts false) ≡ 0
+    → ruled kind size s targets places counts ≡ 0
+fan-ruled kind size s targets places counts p e = ap₂ (λ (b : Bool) (n : ℕ). pick b n 1) p e
+
 -- what the judge accepts can be written
-pub judged-sheeted : (kind size s : ℕ) (targets places counts : List ℕ) → Judged (kindOf kind) size s targets places counts → Sheeted kind size (length targets) (length places) counts
-judged-sheeted kind size s targets places counts j =
+pub judged-sheeted : (kind size s : ℕ) (targets places counts : List ℕ) → planned kind size ≡ true → Judged (kindOf kind) size s targets places counts → Sheeted kind size (length targets) (length places) counts
+judged-sheeted kind size s targets places counts p j =
     let fine = judged-fine (kindOf kind) size s targets j in
     record {
       known = fine .known;
+      planned = p;
       paths = record {
         headed = record {
-          few = omega (arith, fine .sound .few, known-links kind size (fine .known));
+          few = omega (arith, fine .sound .few, planned-links kind size p);
           counted = j .counted;
           short = λ i h. omega (arith, j .fan .path i h .short, known-width kind size (fine .known));
         };
@@ -44,7 +59,7 @@ module _ (kind size s : ℕ) (targets places counts out : List ℕ) where
   k = length targets
 
   abbrev says : ℕ
-  says = ruled kind size s targets places counts out
+  says = ruled kind size s targets places counts
 
   refused : {f : Flaw} → some f ≡ writeAgainst kind size s targets places counts out → Wrote kind size s targets places counts out (written.Refused f) out
   refused e = record {
@@ -54,7 +69,7 @@ module _ (kind size s : ℕ) (targets places counts out : List ℕ) where
 
   -- ---- where the judge says 0
   pub fan-sheeted : says ≡ 0 → Sheeted kind size k (length places) counts
-  fan-sheeted z = judged-sheeted kind size s targets places counts (judged (kindOf kind) size s targets places counts z)
+  fan-sheeted z = let (p, e) = ruled-fan kind size s targets places counts z in judged-sheeted kind size s targets places counts p (judged (kindOf kind) size s targets places counts e)
 
   -- ---- what code has of a lone path
   module _ {b : Bool} (is : b ≡ lone kind k) where

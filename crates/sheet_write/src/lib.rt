@@ -45,10 +45,20 @@ pub fn put_sheet(
     Written::Bytes(n + 16)
 }
 
+// What the judge says of a mesh that has sheets; 1 of another.
+fn ruling(mesh: Mesh, source: u64, targets: &[u64], places: &[u64], counts: &[u64]) -> u64
+    ensures { λ r. ⌜ r ≡ says.ruled (mesh .kind) (mesh .size) source (now (targets .entry)) (now (places .entry)) (now (counts .entry)) ⌝ }
+{
+    if mesh.planned() {
+        return judge::judge(mesh, source, targets, places, counts).number();
+    }
+    1
+}
+
 // Writes the sheet of a fan from the source to the targets at the front of `out`, and gives its length. Path i begins at place i * W of the places, where W is
 // `mesh.places()`, and its hops stand in the counts at i. In the cube of 1 dimension, from 0 to 1, it is 00 00 00 16 01 01 01 01, eight 00, 00 01, seven 00,
-// 01: 26 bytes. Refuses with 37 a single target in a two-level mesh, before everything else; with 35 what is no request or no fan, with 8 where places, counts
-// or, for a fan, `out` are too short; and then writes nothing.
+// 01: 26 bytes. Refuses with 37 a single target in a two-level mesh, before everything else; with 35 what is no request or no fan, and a mesh that has no
+// sheets; with 8 where places, counts or, for a fan, `out` are too short; and then writes nothing.
 pub fn write(
     mesh: Mesh,
     source: u64,
@@ -62,7 +72,7 @@ pub fn write(
     if sheet::lone(mesh.kind, targets.len()) {
         return Written::Refused(Flaw::Lone);
     }
-    let found = judge::judge(mesh, source, targets, places, counts).number();
+    let found = ruling(mesh, source, targets, places, counts);
     if found == 0 {
         return put_sheet(mesh, source, targets.len(), places, counts, out);
     }

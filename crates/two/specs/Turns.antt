@@ -3,18 +3,17 @@
 use Prim.Native.Nat.{ℕ, _+_, _*_, _^_, _<_}
 use mathlib.Core.Path.{_≡_, sym, ap, ap₂, _∙_}
 use mathlib.Core.Logic.{_≢_}
-use native.Mathlib.Nat.{zero-mul, add-comm}
 use native.Mathlib.Omega.{arith}
 use native.Mathlib.Decide.{ℕ-discrete}
-use lib.Bits.{bitXor, xor-lt, xor-self, xor-zero-r, xor-block}
+use lib.Bits.{bitXor, xor-lt, xor-self, xor-zero-r}
 use lib.Count.{trailingZeros}
 use lib.Dec.{eqb}
-use lib.Pow.{pow-add, pow-lt, pow-pos}
 use Rattle.bits.specs.Bit.{flip, Lowest}
 use Rattle.bits.specs.Laws.{trailing-lowest, xor-zero-eq}
+use Rattle.bits.specs.Parts.{lowest-alike}
 use Rattle.scan.specs.Scan.{pick}
 use Rattle.two_parts.specs.Two.{slots, relays, blockOf, slotOf, relay}
-use Rattle.two_parts.specs.Digits.{lowest-alike}
+use Rattle.two_parts.specs.Near.{flip-slot, flip-block}
 use Rattle.two_parts.specs.Parts.{relay-parts, block-below, slot-below}
 use Rattle.two.specs.Next.{crossing, heading, crossed, toward, step, next, nextBlock, nextSlot}
 use Rattle.two.specs.Steps.{pick-same, pick-other, heading-same, heading-other, heading-below, crossed-there, crossed-over, crossed-not, toward-there, toward-moves}
@@ -76,24 +75,6 @@ pub change-off : (m x p h : ℕ) → p ≢ h → change m x p h ≡ along m p h
 unfolding change
 change-off m x p h ne = pick-other p h (across m x p) (along m p h) ne
 
--- ---- a bit of a part is a bit of the number
-
-flip-slot : (m b p d : ℕ) → p < slots m → d < m → flip (relay m b p) d ≡ relay m b (flip p d)
-unfolding flip
-flip-slot m b p d hp l =
-    let parts : 2 ^ d ≡ 0 * 2 ^ m + 2 ^ d = omega (arith, zero-mul (2 ^ m)) in
-    ap (bitXor (relay m b p)) parts
-    ∙ xor-block m b 0 p (2 ^ d) hp (pow-lt l)
-    ∙ ap (λ (y : ℕ). y * 2 ^ m + bitXor p (2 ^ d)) (xor-zero-r b)
-
-flip-block : (m b p k : ℕ) → p < slots m → flip (relay m b p) (m + k) ≡ relay m (flip b k) p
-unfolding flip
-flip-block m b p k hp =
-    let parts : 2 ^ (m + k) ≡ 2 ^ k * 2 ^ m + 0 = omega (arith, ap (λ (y : ℕ). 2 ^ y) (add-comm m k) ∙ pow-add 2 k m) in
-    ap (bitXor (relay m b p)) parts
-    ∙ xor-block m b (2 ^ k) p 0 hp (pow-pos m)
-    ∙ ap (λ (y : ℕ). bitXor b (2 ^ k) * 2 ^ m + y) (xor-zero-r p)
-
 -- ---- the next hop
 
 pub aim-heading : (m b c q : ℕ) → aim m (bitXor b c) q ≡ heading m b c q
@@ -121,7 +102,7 @@ module _ (m u t : ℕ) (hu : u < relays m) (ht : t < relays m) where
 
   across-flip : bitXor u (2 ^ (m + slotOf m u)) ≡ relay m (flip b p) p
   unfolding flip
-  across-flip = ap (λ (v : ℕ). flip v (m + p)) (sym (relay-parts m u)) ∙ flip-block m b p p (slot-below m u)
+  across-flip = sym (flip-block m u p)
 
   low : p ≢ h → trailingZeros m (bitXor p h) < m
   low ne =
@@ -130,7 +111,7 @@ module _ (m u t : ℕ) (hu : u < relays m) (ht : t < relays m) where
 
   along-flip : (d : ℕ) → d < m → bitXor u (2 ^ d) ≡ relay m b (flip p d)
   unfolding flip
-  along-flip d l = ap (λ (v : ℕ). flip v d) (sym (relay-parts m u)) ∙ flip-slot m b p d (slot-below m u) l
+  along-flip d l = sym (flip-slot m u d l)
 
   pub change-next : bitXor u (change m (bitXor (blockOf m u) (blockOf m t)) (slotOf m u) (heading m (blockOf m u) (blockOf m t) (slotOf m t))) ≡ next m u t
   unfolding next step nextBlock nextSlot

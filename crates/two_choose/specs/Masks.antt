@@ -16,7 +16,7 @@ use Rattle.cube_math.specs.Masks.{at, less, some-bit}
 use Rattle.cube_math.specs.Choose.{Chosen, Used, cleared, less-on, less-or}
 use Rattle.cube_math.specs.Plain.{bit-full, full-below}
 use Rattle.cube_math.specs.Loops.{plus-or}
-use Rattle.two_parts.specs.Digits.{xor-flip, flip-is-xor}
+use Rattle.bits.specs.Parts.{xor-flip, flip-is-xor}
 use Rattle.two_math.specs.Sort.{Behind, Shared}
 use Rattle.two_gate.specs.Says.{Tells, tells-no, tells-yes, Small}
 use Rattle.two_math.specs.Loops.{chosen-yes, chosen-no, Using, using-more, Classing, classing-new, classing-old}

@@ -12,7 +12,7 @@ use Rattle.paths.specs.Ways.{Way, Shortest, distance, shortest-one}
 use Rattle.paths.specs.Metric.{shortest-back, shortest-none, shortest-home, shortest-by, fan-least, bundle-least}
 use Rattle.paths.specs.Routed.{routed-way}
 use Rattle.two_parts.specs.Two.{relays, two}
-use Rattle.two_parts.specs.Links.{linked-sym}
+use Rattle.two_parts.specs.Near.{links}
 use Rattle.two.specs.Next.{next, hops}
 use Rattle.two.specs.Once.{plain-routed}
 use Rattle.two_distance.specs.Moved.{distance-is}
@@ -25,7 +25,7 @@ module _ (m : ℕ) (low : 1 ≤ m) (high : m ≤ 3) where
     pub distance-same : distance (two m) s t ≡ distance (two m) t s
     distance-same =
         shortest-one (two m) s t (distance (two m) s t) (distance (two m) t s) exact
-        (shortest-back (two m) (linked-sym m) t s (distance (two m) t s) ht hs (distance-is m t s low high ht hs))
+        (shortest-back (two m) (links m .both) t s (distance (two m) t s) ht hs (distance-is m t s low high ht hs))
 
     pub distance-none : distance (two m) s t ≡ 0 → s ≡ t
     distance-none e = shortest-none (two m) s t (distance (two m) s t) exact e

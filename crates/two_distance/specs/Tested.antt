@@ -16,8 +16,7 @@ use Rattle.bits.specs.Bit.{flip}
 use Rattle.scan.specs.Scan.{pick, seek, any}
 use Rattle.scan.specs.Laws.{both-true, any-true}
 use Rattle.two_parts.specs.Two.{relays, two}
-use Rattle.two_parts.specs.Near.{near, near-linked, near-below, linked-near}
-use Rattle.two_parts.specs.Links.{linked-sym}
+use Rattle.two_parts.specs.Near.{near, links}
 use Rattle.two_distance.specs.Rule.{Rule, rule-shortest}
 use Rattle.paths.specs.Ways.{Shortest}
 use Rattle.two_distance.specs.Tables.{table1, table2, table3, words3, tableOf, entry, look}
@@ -91,25 +90,24 @@ module _ (m top : ℕ) (look : ℕ → ℕ) (table : List ℕ) (long : length ta
     mild-at : (i : ℕ) → i < m + 1 → look (near m k i) ≤ of k + 1
     mild-at i l = leb-true (look (near m k i)) (of k + 1) (all-at (λ i. leb (look (near m k i)) (of k + 1)) (m + 1) (last .0) i l)
 
-    falls : k ≢ 0 → (i : ℕ) × (of k ≡ look (near m k i) + 1)
+    falls : k ≢ 0 → (i : ℕ) × (i < m + 1) × (of k ≡ look (near m k i) + 1)
     falls ne =
         let t : any (λ i. eqb (of k) (look (near m k i) + 1)) 0 (m + 1) ≡ true =
         sym (ap (λ (b : Bool). pick b (eqb (of k) 0) (any (λ i. eqb (of k) (look (near m k i) + 1)) 0 (m + 1))) (ne-eqb k 0 ne)) ∙ last .1 in
         let (i, a, b, e) = any-true (λ i. eqb (of k) (look (near m k i) + 1)) 0 (m + 1) t in
-        (i, eqb-true (of k) (look (near m k i) + 1) e)
+        (i, omega (arith, b), eqb-true (of k) (look (near m k i) + 1) e)
 
   -- the test makes the rule
   pub tested-rule : Rule (two m) (λ k. getD table k 0)
   tested-rule = record {
     start = eqb-true (of 0) 0 (last 0 (pow-pos _) .1);
-    near = λ u v h l.
-        let (i, g, e) = linked-near m u v l in
-        let below : near m u i < relays m = near-below m u h i in
-        omega (arith, mild-at u h i g, looked (near m u i) below, ap of e);
+    near = λ u v h k l.
+        let (i, g, e) = links m .all u v h k l in
+        omega (arith, mild-at u h i g, looked (near m u i) (links m .below u i h g), ap of e);
     down = λ u h ne.
-        let (i, e) = falls u h ne in
-        let below : near m u i < relays m = near-below m u h i in
-        (near m u i, below, near-linked m u i, e ∙ ap (λ (x : ℕ). x + 1) (sym (looked (near m u i) below)));
+        let (i, g, e) = falls u h ne in
+        let below : near m u i < relays m = links m .below u i h g in
+        (near m u i, below, links m .linked u i h g, e ∙ ap (λ (x : ℕ). x + 1) (sym (looked (near m u i) below)));
   }
 
 -- ---- the three tables pass it
@@ -132,7 +130,7 @@ module _ (m : ℕ) (low : 1 ≤ m) (high : m ≤ 3) where
   pub entry-shortest : (r : ℕ) → r < relays m → Shortest (two m) 0 r (entry m r)
   entry-shortest r h =
       let (long, passed) = passes m low high in
-      rule-shortest (two m) (entry m) (tested-rule m (top m) (look m) (tableOf m) long passed) (linked-sym m) r (pow-pos _) h
+      rule-shortest (two m) (entry m) (tested-rule m (top m) (look m) (tableOf m) long passed) (links m .both) r (pow-pos _) h
 
   pub entry-top : (r : ℕ) → r < relays m → entry m r ≤ top m
   entry-top r h = let (long, passed) = passes m low high in tested-top m (top m) (look m) (tableOf m) long passed r h

@@ -1,6 +1,6 @@
 -- Laws of bits that the two-level mesh needs beside those of the crate `bits`. Assumes nothing.
 --
--- `bit-high`, `bit-mod`: bits from n up, none and dropped. `gather-bit`, `gather-lt`: a number made of its bits. `shuffled-xor`, `shuffled-pow`, `shuffled-same`: moving each bit from p to
+-- `gather-bit`, `gather-lt`: a number made of its bits. `shuffled-xor`, `shuffled-pow`, `shuffled-same`: moving each bit from p to
 -- p xor b keeps the xor of two numbers, takes 2 ^ p to 2 ^ (p xor b), and leaves different numbers different.
 use Prim.Native.Nat.{ℕ, zero, suc, _+_, _-_, _*_, _/_, _%_, _^_, _≤_, _<_}
 use mathlib.Core.Path.{_≡_, refl, sym, ap, ap₂, _∙_}
@@ -8,34 +8,15 @@ use mathlib.Core.Logic.{_⊎_, inl, inr, ⊎-elim}
 use native.Mathlib.Nat.{pow-suc, zero-mul, one-mul}
 use native.Mathlib.Omega.{arith}
 use native.Mathlib.Decide.{ℕ-discrete}
-use lib.Arith.{lt-one, digits-div}
-use lib.Pow.{pow-pos, pow-lt, split}
+use lib.Arith.{digits-div}
+use lib.Pow.{pow-pos, pow-lt}
 use lib.Bits.{bitXor, differ, xor-comm, xor-lt}
-use Rattle.bits.specs.Bit.{bit, flip, Lowest}
-use Rattle.bits.specs.Laws.{bit-lt, bit-suc, bit-none, bit-xor, bit-pow-same, bit-pow-other, clash, lt-or, lt-or-le, same-bits, xor-assoc, xor-back}
+use Rattle.bits.specs.Bit.{bit}
+use Rattle.bits.specs.Laws.{bit-lt, bit-none, bit-xor, bit-pow-same, bit-pow-other, same-bits, xor-assoc, xor-back}
+use Rattle.bits.specs.Parts.{xor-forth, bit-under}
 use Rattle.two_parts.specs.Seen.{gather, shuffled}
 
--- ---- one bit
-
--- a number below 2 ^ n has no bit from n on
-pub bit-high : (n c x : ℕ) → x < 2 ^ n → n ≤ c → bit c x ≡ 0
-bit-high zero c x h g = ap (bit c) (lt-one h) ∙ bit-none c
-bit-high (suc n) zero x h g = absurd (omega arith)
-bit-high (suc n) (suc c) x h g = bit-suc c x ∙ bit-high n c (x / 2) (omega (arith, rw pow-suc at h)) (omega arith)
-
-pub bit-below : (n i x : ℕ) → x < 2 ^ n → bit i x ≡ 1 → i < n
-bit-below n i x h o = ⊎-elim (λ l. l) (λ g. absurd (clash (bit-high n i x h g) o)) (lt-or-le i n)
-
--- the lowest set bit is the same at every width
-pub lowest-alike : (v w x i j : ℕ) → Lowest v x i → Lowest w x j → i ≡ j
-lowest-alike v w x i j p q =
-    ⊎-elim (λ l. absurd (clash (q .below i l) (p .set)))
-    (λ r. ⊎-elim (λ e. e) (λ l. absurd (clash (p .below j l) (q .set))) r) (lt-or i j)
-
 -- ---- xor
-
-pub xor-forth : (a b : ℕ) → bitXor a (bitXor a b) ≡ b
-xor-forth a b = xor-comm a (bitXor a b) ∙ ap (λ (y : ℕ). bitXor y a) (xor-comm a b) ∙ xor-back b a
 
 -- two numbers changed alike
 pub xor-alike : (x y a : ℕ) → bitXor (bitXor x a) (bitXor y a) ≡ bitXor x y
@@ -44,15 +25,6 @@ xor-alike x y a =
 
 pub xor-same : (x y a : ℕ) → bitXor x a ≡ bitXor y a → x ≡ y
 xor-same x y a e = sym (xor-back x a) ∙ ap (λ (z : ℕ). bitXor z a) e ∙ xor-back y a
-
--- the xor is one bit: the one has it changed
-pub xor-flip : (x y i : ℕ) → bitXor x y ≡ 2 ^ i → y ≡ flip x i
-unfolding flip
-xor-flip x y i e = sym (xor-forth x y) ∙ ap (bitXor x) e
-
-pub flip-is-xor : (x y i : ℕ) → y ≡ flip x i → bitXor x y ≡ 2 ^ i
-unfolding flip
-flip-is-xor x y i e = ap (bitXor x) e ∙ xor-forth x (2 ^ i)
 
 -- ---- a number made of its bits
 
@@ -82,16 +54,6 @@ bit-top n q r h g = ap (λ (y : ℕ). y % 2) (digits-div q g) ∙ small q h
   where
     small : (x : ℕ) → x < 2 → x % 2 ≡ x
     small x l = omega arith
-
-bit-under : (n i q r : ℕ) → i < n → bit i (q * 2 ^ n + r) ≡ bit i r
-bit-under zero i q r l = absurd (omega arith)
-bit-under (suc n) zero q r l = Rattle.bits.specs.Laws.bit-zero (q * 2 ^ suc n + r) ∙ lib.Bits.block-odd q n r ∙ sym (Rattle.bits.specs.Laws.bit-zero r)
-bit-under (suc n) (suc i) q r l =
-    bit-suc i (q * 2 ^ suc n + r) ∙ ap (bit i) (lib.Bits.block-half q n r) ∙ bit-under n i q (r / 2) (omega arith) ∙ sym (bit-suc i r)
-
--- the bits under n stay where those from n up are dropped
-pub bit-mod : (n i x : ℕ) → i < n → bit i (x % 2 ^ n) ≡ bit i x
-bit-mod n i x l = sym (bit-under n i (x / 2 ^ n) (x % 2 ^ n) l) ∙ ap (bit i) (split x n)
 
 pub gather-bit : (f : ℕ → ℕ) (n i : ℕ) → ((j : ℕ) → f j < 2) → i < n → bit i (gather f n) ≡ f i
 gather-bit f zero i h l = absurd (omega arith)

@@ -21,7 +21,8 @@ use Rattle.scan.specs.Laws.{both-true, any-false, true-or, true-false}
 use Rattle.two_parts.specs.Two.{blocks}
 use Rattle.two_parts.specs.Parts.{slots-few}
 use Rattle.two_parts.specs.Seen.{shuffled, seenBlock}
-use Rattle.two_parts.specs.Digits.{bit-mod, shuffled-lt, shuffled-bit}
+use Rattle.bits.specs.Parts.{bit-mod}
+use Rattle.two_parts.specs.Digits.{shuffled-lt, shuffled-bit}
 
 -- of the places below 32, those whose bit j is not set: 0x55555555, 0x33333333, 0x0f0f0f0f, 0x00ff00ff, 0x0000ffff
 abbrev pub mask : ℕ → ℕ

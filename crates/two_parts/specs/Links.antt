@@ -1,38 +1,22 @@
 -- The links of the two-level mesh. `joined-link`, `link-joined`: what the test of a link says of blocks and slots; `linked-link`,
--- `link-linked`: the same of relays. `linked-sym`: links go both ways. `link-within`: a link leads to a block and a slot of the mesh. How
--- many links a relay has is told in Near.antt. Assumes nothing.
+-- `link-linked`: the same of relays. `link-within`: a link leads to a block and a slot of the mesh. What follows of its links is told of
+-- any mesh, from Near.antt. Assumes nothing.
 use Prim.Native.Nat.{ℕ, _^_, _<_}
 use mathlib.Core.Path.{_≡_, refl, sym, ap, ap₂, _∙_, subst}
 use mathlib.Core.Bool.{Bool, true, false, _&&_, _||_, and-false, or-false}
 use mathlib.Core.Logic.{_⊎_, inl, inr, ⊎-elim, _≢_}
 use native.Mathlib.Omega.{arith}
-use lib.Bits.{bitXor, xor-comm, xor-lt, xor-self}
+use lib.Bits.{bitXor, xor-lt, xor-self}
 use lib.Count.{ones}
 use lib.Dec.{eqb}
 use lib.Pow.{pow-pos}
 use borrow.Author.Tests.{eqb-true, eq-eqb, ne-eqb}
 use Rattle.bits.specs.Bit.{flip}
 use Rattle.bits.specs.Laws.{flip-lt, ones-one, ones-pow}
-use Rattle.scan.specs.Laws.{both-true}
+use Rattle.bits.specs.Parts.{xor-flip, flip-is-xor}
+use Rattle.scan.specs.Laws.{both-true, either-true, second-true}
 use Rattle.two_parts.specs.Two.{slots, blocks, blockOf, slotOf, relay, joined, linked}
-use Rattle.two_parts.specs.Digits.{xor-flip, flip-is-xor}
 use Rattle.two_parts.specs.Parts.{block-relay, slot-relay, slot-below}
-
--- ---- truth
-
-pub either-true : (a b : Bool) → (a || b) ≡ true → (a ≡ true) ⊎ (b ≡ true)
-either-true true b e = inl refl
-either-true false b e = inr e
-
-pub either-right : (a b : Bool) → b ≡ true → (a || b) ≡ true
-either-right true b e = refl
-either-right false b e = e
-
--- two tests that follow from each other
-pub tests-same : (a b : Bool) → (a ≡ true → b ≡ true) → (b ≡ true → a ≡ true) → a ≡ b
-tests-same true b f g = sym (f refl)
-tests-same false true f g = g refl
-tests-same false false f g = refl
 
 -- ---- what a link is
 
@@ -57,7 +41,7 @@ link-joined m b p c q (inl (e, (i, l, z))) =
     ap₂ (λ (x y : Bool). (x && y) || (eqb p q && eqb (bitXor b c) (2 ^ p)))
     (eq-eqb b c e) (eq-eqb (ones (bitXor p q)) 1 (ap ones (flip-is-xor p q i z) ∙ ones-pow i))
 link-joined m b p c q (inr (e, z)) =
-    either-right (eqb b c && eqb (ones (bitXor p q)) 1) (eqb p q && eqb (bitXor b c) (2 ^ p))
+    second-true (eqb b c && eqb (ones (bitXor p q)) 1) (eqb p q && eqb (bitXor b c) (2 ^ p))
     (ap₂ (λ (x y : Bool). x && y) (eq-eqb p q e) (eq-eqb (bitXor b c) (2 ^ p) (flip-is-xor b c p z)))
 
 abbrev pub Linked : (m u v : ℕ) → Type 0
@@ -99,34 +83,6 @@ pub joined-not : (b p c q : ℕ) → b ≢ c → p ≢ q → joined b p c q ≡ 
 unfolding joined
 joined-not b p c q nb np =
     ap₂ (λ (x y : Bool). (x && eqb (ones (bitXor p q)) 1) || (y && eqb (bitXor b c) (2 ^ p))) (ne-eqb b c nb) (ne-eqb p q np)
-
--- ---- links go both ways
-
-joined-back : (b p c q : ℕ) → joined b p c q ≡ true → joined c q b p ≡ true
-unfolding joined
-joined-back b p c q e =
-    ⊎-elim
-    (λ t. let (x, y) = both-true (eqb b c) (eqb (ones (bitXor p q)) 1) t in
-    ap₂ (λ (x y : Bool). (x && y) || (eqb q p && eqb (bitXor c b) (2 ^ q)))
-    (eq-eqb c b (sym (eqb-true b c x))) (ap (λ (z : ℕ). eqb (ones z) 1) (xor-comm q p) ∙ y))
-    (λ t. let (x, y) = both-true (eqb p q) (eqb (bitXor b c) (2 ^ p)) t in
-    either-right (eqb c b && eqb (ones (bitXor q p)) 1) (eqb q p && eqb (bitXor c b) (2 ^ q))
-    (ap₂ (λ (x y : Bool). x && y) (eq-eqb q p (sym (eqb-true p q x)))
-    (eq-eqb (bitXor c b) (2 ^ q) (xor-comm c b ∙ eqb-true (bitXor b c) (2 ^ p) y ∙ ap (λ (z : ℕ). 2 ^ z) (eqb-true p q x)))))
-    (either-true (eqb b c && eqb (ones (bitXor p q)) 1) (eqb p q && eqb (bitXor b c) (2 ^ p)) e)
-
-pub joined-sym : (b p c q : ℕ) → joined b p c q ≡ joined c q b p
-joined-sym b p c q = tests-same (joined b p c q) (joined c q b p) (joined-back b p c q) (joined-back c q b p)
-
-pub linked-sym : (m u v : ℕ) → linked m u v ≡ linked m v u
-unfolding linked
-linked-sym m u v = joined-sym (blockOf m u) (slotOf m u) (blockOf m v) (slotOf m v)
-
--- no relay is linked to itself
-pub linked-none : (m u : ℕ) → linked m u u ≡ false
-unfolding linked ones
-linked-none m u =
-    joined-same (blockOf m u) (slotOf m u) (blockOf m u) (slotOf m u) refl ∙ ap (λ (x : ℕ). eqb (ones x) 1) (xor-self (slotOf m u))
 
 -- ---- a link stays in the mesh
 

@@ -13,7 +13,8 @@ use Rattle.two_parts.specs.Two.{slots, blocks, relays, blockOf, slotOf, 
 use Rattle.two_parts.specs.Seen.{shuffled, seenBlock, seenSlot, seen}
 use Rattle.two_parts.specs.Digits.{xor-alike, xor-same, shuffled-lt, shuffled-xor, shuffled-pow, shuffled-same, shuffled-none, shuffled-twice}
 use Rattle.two_parts.specs.Parts.{block-relay, slot-relay, relay-parts, relay-below, block-below, slot-below}
-use Rattle.two_parts.specs.Links.{tests-same, linked-parts}
+use Rattle.scan.specs.Laws.{tests-same}
+use Rattle.two_parts.specs.Links.{linked-parts}
 
 -- two comparisons that follow from each other
 eqb-same : (x y v w : ℕ) → (x ≡ y → v ≡ w) → (v ≡ w → x ≡ y) → eqb x y ≡ eqb v w

@@ -19,7 +19,7 @@ use Rattle.bits.specs.Laws.{bit-none, bit-on, clash, flip-lt, flip-other, lt-or
 use Rattle.cube_math.specs.Doors.{In, Fresh, Walk}
 use Rattle.cube_math.specs.Choose.{cleared}
 use Rattle.cube_math.specs.Plain.{full-below}
-use Rattle.two_parts.specs.Digits.{bit-below}
+use Rattle.bits.specs.Parts.{bit-below}
 use Rattle.cube_math.specs.Single.{rank, rank-less}
 use Rattle.two_write.specs.Row.{hops, hops-length}
 use Rattle.two_math.specs.Relays.{Relay}

@@ -4,7 +4,7 @@ use mathlib.Core.Path.{_≡_, sym, _∙_}
 use native.Mathlib.Omega.{arith}
 use lib.ListN.{length, take, drop}
 use Rattle.mesh.specs.Kinds.{kindOf, meshOf}
-use Rattle.mesh.specs.Limits.{known-links}
+use Rattle.mesh.specs.Limits.{ends-links}
 use Rattle.mesh.specs.Requests.{Ends, ends-fine}
 use Rattle.bundle.specs.Needs.{Pair}
 use Rattle.bundle.specs.Laying.{many-places, lent-layable, lent-rows, lent-laid, part-long}
@@ -22,7 +22,7 @@ at c = c .before .before .before .before .before .before .before
 room : (c : tie.After-choose) → c .before .before .before .links-in .result ≤ length (c .choose .last .1 .1 .1 .1 .0)
 room c =
     let s = at c in
-    omega (arith, known-links (s .args .mesh .kind) (s .args .mesh .size) (ends s .known), c .before .before .before .links-in .ensures, s .pre .1, c .choose .kept .1 .1 .1 .1 .0)
+    omega (arith, ends-links (s .args .mesh .kind) (s .args .mesh .size) (s .args .source) (s .args .target) (ends s), c .before .before .before .links-in .ensures, s .pre .1, c .choose .kept .1 .1 .1 .1 .0)
 
 links-in-requires : tie.Need-links-in-requires
 links-in-requires c κs = ends (c .before .before .before) .known
@@ -34,7 +34,7 @@ choose-requires : tie.Need-choose-requires
 choose-requires c κs =
     let s = c .before .before .before .before .before .before in
     let l = c .before .before .links-in .ensures in
-    record { ends = ends s; links = l; room = omega (arith, known-links (s .args .mesh .kind) (s .args .mesh .size) (ends s .known), l, s .pre .1) }
+    record { ends = ends s; links = l; room = omega (arith, ends-links (s .args .mesh .kind) (s .args .mesh .size) (s .args .source) (s .args .target) (ends s), l, s .pre .1) }
 
 slice-reshare-prefix-lay : tie.Need-slice-reshare-prefix-lay
 slice-reshare-prefix-lay c = room (c .before .before)
@@ -47,7 +47,7 @@ mul-lay c =
     let h = c .before .before .before in
     let s = at h in
     let a = s .args in
-    let few = known-links (a .mesh .kind) (a .mesh .size) (ends s .known) in
+    let few = ends-links (a .mesh .kind) (a .mesh .size) (a .source) (a .target) (ends s) in
     let k = h .before .before .before .links-in .ensures in
     search needs
 

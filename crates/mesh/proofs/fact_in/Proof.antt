@@ -1,7 +1,7 @@
 -- `mesh::fact_in` meets its contract: a mesh that there is is of one of the kinds. Assumes nothing.
 use mathlib.Core.Path.{_∙_}
 use Rattle.mesh.specs.Kinds.{Kind}
-use Rattle.mesh.specs.Laws.{as-cube, as-two, known-cube, known-two, no-other}
+use Rattle.mesh.specs.Laws.{as-cube, as-two, as-meta, known-cube, known-two, known-meta, no-other}
 use Rattle.mesh.specs.Says.{factOf}
 use Rattle.mesh.proofs.fact_in.Statement.{statement}
 use Rattle.mesh.proofs.fact_in.Tie as tie
@@ -22,9 +22,17 @@ returns-2 c =
     let a = c .before .before .before .before .before .args in
     c .two-fact .ensures ∙ as-two (λ (K : Kind). factOf (a .which) (K .mesh (a .mesh .size))) (c .before .before .before .if1 .left) (c .before .if2 .taken)
 
--- there is no mesh of another kind
+meta-fact-requires : tie.Need-meta-fact-requires
+meta-fact-requires c κs = let s = c .before .before .before .before .before .before in known-meta (s .args .mesh .kind) (s .args .mesh .size) (s .pre) (c .if3 .taken)
+
 returns-3 : tie.Need-returns-3
-returns-3 c = let s = c .before .before .before .before in absurd (no-other (s .args .mesh .kind) (s .args .mesh .size) (s .pre) (c .before .before .if1 .left) (c .if2 .left))
+returns-3 c =
+    let a = c .before .before .before .before .before .before .before .args in
+    c .meta-fact .ensures ∙ as-meta (λ (K : Kind). factOf (a .which) (K .mesh (a .mesh .size))) (c .before .before .before .before .before .if1 .left) (c .before .before .before .if2 .left) (c .before .if3 .taken)
+
+-- there is no mesh of another kind
+returns-4 : tie.Need-returns-4
+returns-4 c = let s = c .before .before .before .before .before .before in absurd (no-other (s .args .mesh .kind) (s .args .mesh .size) (s .pre) (c .before .before .before .before .if1 .left) (c .before .before .if2 .left) (c .if3 .left))
 
 pub fact-in-spec : {M : Type 1} → statement M
-fact-in-spec = tie.close (tie.spec cube-fact-requires returns two-fact-requires returns-2 returns-3)
+fact-in-spec = tie.close (tie.spec cube-fact-requires returns two-fact-requires returns-2 meta-fact-requires returns-3 returns-4)

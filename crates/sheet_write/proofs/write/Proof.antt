@@ -1,6 +1,5 @@
 -- `sheet_write::write` meets its contract: a lone path, what the judge says, else the sheet. Assumes nothing.
-use mathlib.Core.Path.{_≡_, sym, ap, _∙_}
-use Rattle.judge.specs.Says.{numberOf}
+use mathlib.Core.Path.{_≡_, sym, _∙_}
 use Rattle.sheet_write.specs.Says.{ruled}
 use Rattle.sheet_write.specs.Writing.{fan-sheeted, wrote-lone, wrote-fan, wrote-short, wrote-not}
 use borrow.Author.Needs.{needs}
@@ -8,14 +7,13 @@ use Rattle.sheet_write.proofs.write.Statement.{statement}
 use Rattle.sheet_write.proofs.write.Tie as tie
 use Rattle.sheet_write.proofs.write.Reads as reads
 use Rattle.sheet_write.proofs.write.Lts as lts
-use Rattle.judge.proofs.Verdict.number.Reads as number-reads
-use Rattle.judge.proofs.judge.Reads as judge-reads
 use Rattle.sheet.proofs.lone.Reads as lone-reads
+use Rattle.sheet_write.proofs.ruling.Reads as ruling-reads
 use Rattle.sheet_write.proofs.put_sheet.Reads as put-sheet-reads
 
--- the number that the judge told
-said : (c : tie.After-number) → c .number .result ≡ (let a = c .before .before .before .before .before .before .before .before .args in ruled (a .mesh .kind) (a .mesh .size) (a .source) (a .targets .now) (a .places .now) (a .counts .now) (a .out .now))
-said c = c .number .ensures ∙ ap numberOf (c .before .judge .ensures)
+-- what the judge says
+said : (c : tie.After-ruling) → c .ruling .result ≡ (let a = c .before .before .before .before .before .before .before .args in ruled (a .mesh .kind) (a .mesh .size) (a .source) (a .targets .now) (a .places .now) (a .counts .now))
+said c = c .ruling .ensures
 
 lone-requires : tie.Need-lone-requires
 lone-requires c κs = search needs
@@ -23,26 +21,23 @@ lone-requires c κs = search needs
 returns : tie.Need-returns
 returns c = let a = c .before .before .before .before .before .before .args in wrote-lone (a .mesh .kind) (a .mesh .size) (a .source) (a .targets .now) (a .places .now) (a .counts .now) (a .out .now) (c .before .lone .ensures) (c .if1 .taken)
 
-judge-requires : tie.Need-judge-requires
-judge-requires c κs = search needs
-
-number-requires : tie.Need-number-requires
-number-requires c κs = search needs
+ruling-requires : tie.Need-ruling-requires
+ruling-requires c κs = search needs
 
 put-sheet-requires : tie.Need-put-sheet-requires
-put-sheet-requires c κs = let n = c .before .before in let a = n .before .before .before .before .before .before .before .before .args in fan-sheeted (a .mesh .kind) (a .mesh .size) (a .source) (a .targets .now) (a .places .now) (a .counts .now) (a .out .now) (sym (said n) ∙ c .before .if2 .taken)
+put-sheet-requires c κs = let n = c .before .before in let a = n .before .before .before .before .before .before .before .args in fan-sheeted (a .mesh .kind) (a .mesh .size) (a .source) (a .targets .now) (a .places .now) (a .counts .now) (a .out .now) (sym (said n) ∙ c .before .if2 .taken)
 
 same-length : tie.Need-same-length
 same-length c = search needs
 
 returns-2 : tie.Need-returns-2
-returns-2 c = let n = c .before .before .before .before .before in let t = n .before .before in let a = t .before .before .before .before .before .before .args in wrote-fan (a .mesh .kind) (a .mesh .size) (a .source) (a .targets .now) (a .places .now) (a .counts .now) (a .out .now) (t .before .lone .ensures) (t .if1 .left) (sym (said n) ∙ c .before .before .before .before .if2 .taken) (c .before .before .put-sheet .ensures)
+returns-2 c = let n = c .before .before .before .before .before in let t = n .before in let a = t .before .before .before .before .before .before .args in wrote-fan (a .mesh .kind) (a .mesh .size) (a .source) (a .targets .now) (a .places .now) (a .counts .now) (a .out .now) (t .before .lone .ensures) (t .if1 .left) (sym (said n) ∙ c .before .before .before .before .if2 .taken) (c .before .before .put-sheet .ensures)
 
 returns-3 : tie.Need-returns-3
-returns-3 c = let n = c .before .before in let t = n .before .before in let a = t .before .before .before .before .before .before .args in wrote-short (a .mesh .kind) (a .mesh .size) (a .source) (a .targets .now) (a .places .now) (a .counts .now) (a .out .now) (t .before .lone .ensures) (t .if1 .left) (λ e. c .before .if2 .left (said n ∙ e)) (sym (said n) ∙ c .if3 .taken)
+returns-3 c = let n = c .before .before in let t = n .before in let a = t .before .before .before .before .before .before .args in wrote-short (a .mesh .kind) (a .mesh .size) (a .source) (a .targets .now) (a .places .now) (a .counts .now) (a .out .now) (t .before .lone .ensures) (t .if1 .left) (λ e. c .before .if2 .left (said n ∙ e)) (sym (said n) ∙ c .if3 .taken)
 
 returns-4 : tie.Need-returns-4
-returns-4 c = let n = c .before .before in let t = n .before .before in let a = t .before .before .before .before .before .before .args in wrote-not (a .mesh .kind) (a .mesh .size) (a .source) (a .targets .now) (a .places .now) (a .counts .now) (a .out .now) (t .before .lone .ensures) (t .if1 .left) (λ e. c .before .if2 .left (said n ∙ e)) (λ e. c .if3 .left (said n ∙ e))
+returns-4 c = let n = c .before .before in let t = n .before in let a = t .before .before .before .before .before .before .args in wrote-not (a .mesh .kind) (a .mesh .size) (a .source) (a .targets .now) (a .places .now) (a .counts .now) (a .out .now) (t .before .lone .ensures) (t .if1 .left) (λ e. c .before .if2 .left (said n ∙ e)) (λ e. c .if3 .left (said n ∙ e))
 
 pub write-spec : {M : Type 1} → statement M
 write-spec =
@@ -50,8 +45,7 @@ write-spec =
     (tie.spec
     lone-requires
     returns
-    judge-requires
-    number-requires
+    ruling-requires
     put-sheet-requires
     same-length
     returns-2

@@ -10,7 +10,7 @@ use lib.Seq.{length-take-le}
 use Rattle.paths.specs.Finding.{findingBy}
 use Rattle.paths.specs.Bundles.{endsAt}
 use Rattle.mesh.specs.Kinds.{kindOf, meshOf}
-use Rattle.mesh.specs.Limits.{mostLinks, known-links}
+use Rattle.mesh.specs.Limits.{mostLinks, ends-links}
 use Rattle.mesh.specs.Requests.{Ends, checked-ends}
 use Rattle.judge.specs.Says.{rule, Asked, bundleAsked, cramped}
 use Rattle.judge.specs.Asked.{told-refused, told-short, told-granted, passed, passed-lent, bundle-cramped, ends-cut}
@@ -77,7 +77,7 @@ few : (c : tie.After-links-in) → c .links-in .result ≤ mostLinks
 few c =
     let e = c .before .before .before .before .before in
     let a = at (e .before .before) .args in
-    omega (arith, known-links (a .mesh .kind) (a .mesh .size) (fine e .known), c .links-in .ensures)
+    omega (arith, ends-links (a .mesh .kind) (a .mesh .size) (a .source) (a .target) (fine e), c .links-in .ensures)
 
 -- as many of them as links
 ends : (c : tie.After-links-in)

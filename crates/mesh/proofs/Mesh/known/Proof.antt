@@ -1,7 +1,7 @@
 -- `mesh::Mesh::known` meets its contract: each kind answers for its own sizes. Assumes nothing.
 use mathlib.Core.Path.{_∙_}
 use Rattle.mesh.specs.Kinds.{Kind}
-use Rattle.mesh.specs.Laws.{as-cube, as-two, as-other}
+use Rattle.mesh.specs.Laws.{as-cube, as-two, as-meta, as-other}
 use borrow.Author.Needs.{needs}
 use Rattle.mesh.proofs.Mesh.known.Statement.{statement}
 use Rattle.mesh.proofs.Mesh.known.Tie as tie
@@ -20,10 +20,18 @@ returns-2 c =
     let n = c .before .before .before .before .before .args .self .size in
     c .known2 .ensures ∙ as-two (λ (K : Kind). K .known n) (c .before .before .before .if1 .left) (c .before .if2 .taken)
 
+known-requires-3 : tie.Need-known-requires-3
+known-requires-3 c κs = search needs
+
 returns-3 : tie.Need-returns-3
 returns-3 c =
-    let n = c .before .before .before .before .args .self .size in
-    as-other (λ (K : Kind). K .known n) (c .before .before .if1 .left) (c .if2 .left)
+    let a = c .before .before .before .before .before .before .before .args in
+    c .known3 .ensures ∙ as-meta (λ (K : Kind). K .known (a .self .size)) (c .before .before .before .before .before .if1 .left) (c .before .before .before .if2 .left) (c .before .if3 .taken)
+
+returns-4 : tie.Need-returns-4
+returns-4 c =
+    let a = c .before .before .before .before .before .before .args in
+    as-other (λ (K : Kind). K .known (a .self .size)) (c .before .before .before .before .if1 .left) (c .before .before .if2 .left) (c .if3 .left)
 
 pub known-spec : {M : Type 1} → statement M
-known-spec = tie.close (tie.spec known-requires returns known-requires-2 returns-2 returns-3)
+known-spec = tie.close (tie.spec known-requires returns known-requires-2 returns-2 known-requires-3 returns-3 returns-4)

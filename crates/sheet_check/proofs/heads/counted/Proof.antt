@@ -3,6 +3,7 @@ use mathlib.Core.Path.{ap}
 use mathlib.Core.Option.{Option}
 use native.Mathlib.Omega.{arith}
 use Rattle.mesh.specs.Kinds.{meshOf}
+use Rattle.mesh.specs.Laws.{planned-known}
 use Rattle.sheet.specs.Says.{tellRead}
 use Rattle.sheet_check.specs.Heads.{count-none, count-many, count-lone, count-fine}
 use Rattle.sheet.specs.declared.Flaw.{Flaw}
@@ -18,7 +19,7 @@ returns : tie.Need-returns
 returns c = let a = c .before .args in ap (λ (o : Option Flaw). tellRead o (a .mesh .kind) (a .mesh .size) (a .source) (a .k)) (count-none (a .mesh .kind) (meshOf (a .mesh .kind) (a .mesh .size) .links) (a .k) (c .if1 .taken))
 
 links-in-requires : tie.Need-links-in-requires
-links-in-requires c κs = search needs
+links-in-requires c κs = let s = c .before in planned-known (s .args .mesh .kind) (s .args .mesh .size) (s .pre)
 
 returns-2 : tie.Need-returns-2
 returns-2 c = let a = c .before .before .before .args in ap (λ (o : Option Flaw). tellRead o (a .mesh .kind) (a .mesh .size) (a .source) (a .k)) (count-many (a .mesh .kind) (meshOf (a .mesh .kind) (a .mesh .size) .links) (a .k) (c .before .before .if1 .left) (omega (arith, c .if2 .taken, c .before .links-in .ensures)))

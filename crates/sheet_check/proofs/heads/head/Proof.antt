@@ -11,7 +11,7 @@ use Rattle.sheet_check.proofs.heads.head.Statement.{statement}
 use Rattle.sheet_check.proofs.heads.head.Tie as tie
 use Rattle.sheet_check.proofs.heads.head.Reads as reads
 use Rattle.sheet_check.proofs.heads.head.Lts as lts
-use Rattle.mesh.proofs.Mesh.known.Reads as known-reads
+use Rattle.mesh.proofs.Mesh.planned.Reads as planned-reads
 use Rattle.octets.proofs.number.Reads as number-reads
 use Rattle.sheet_check.proofs.heads.counted.Reads as counted-reads
 
@@ -45,8 +45,8 @@ shared-slice-read-t15 c = search needs
 cast-t16 : tie.Need-cast-t16
 cast-t16 c = omega (arith, c .shared-slice-known4 .given 6)
 
-known-requires : tie.Need-known-requires
-known-requires c κs = search needs
+planned-requires : tie.Need-planned-requires
+planned-requires c κs = search needs
 
 number-requires-2 : tie.Need-number-requires-2
 number-requires-2 c κs = search needs
@@ -58,17 +58,17 @@ cast-counted : tie.Need-cast-counted
 cast-counted c = omega (arith, c .shared-slice-known5 .given 7)
 
 counted-requires : tie.Need-counted-requires
-counted-requires c κs = sym (c .before .before .before .known .ensures) ∙ c .before .before .if4 .taken
+counted-requires c κs = sym (c .before .before .before .planned .ensures) ∙ c .before .before .if4 .taken
 
 returns-4 : tie.Need-returns-4
 returns-4 c =
     let l = c .before .before .before .before .before .before .before .before .before .before .before .before .before .args .bytes .now in
     c .counted .ensures
     ∙ ap (λ (x : ℕ). tellRead (countAgainst (kindAt l) (meshAt l .links) (countAt l)) (kindAt l) (sizeAt l) x (countAt l)) (c .before .before .number2 .ensures)
-    ∙ ap (sheetTold l) (head-known l (c .before .before .before .before .before .before .before .before .before .before .before .if1 .left) (c .before .before .before .before .before .before .before .before .before .before .number .ensures) (c .before .before .before .before .before .before .before .before .before .if2 .left) (c .before .before .before .before .before .before .before .if3 .left) (c .before .before .before .before .known .ensures) (c .before .before .before .if4 .taken))
+    ∙ ap (sheetTold l) (head-known l (c .before .before .before .before .before .before .before .before .before .before .before .if1 .left) (c .before .before .before .before .before .before .before .before .before .before .number .ensures) (c .before .before .before .before .before .before .before .before .before .if2 .left) (c .before .before .before .before .before .before .before .if3 .left) (c .before .before .before .before .planned .ensures) (c .before .before .before .if4 .taken))
 
 returns-5 : tie.Need-returns-5
-returns-5 c = let l = c .before .before .before .before .before .before .before .before .before .before .args .bytes .now in ap (sheetTold l) (head-unknown l (c .before .before .before .before .before .before .before .before .if1 .left) (c .before .before .before .before .before .before .before .number .ensures) (c .before .before .before .before .before .before .if2 .left) (c .before .before .before .before .if3 .left) (c .before .known .ensures) (c .if4 .left))
+returns-5 c = let l = c .before .before .before .before .before .before .before .before .before .before .args .bytes .now in ap (sheetTold l) (head-unknown l (c .before .before .before .before .before .before .before .before .if1 .left) (c .before .before .before .before .before .before .before .number .ensures) (c .before .before .before .before .before .before .if2 .left) (c .before .before .before .before .if3 .left) (c .before .planned .ensures) (c .if4 .left))
 
 pub head-spec : {M : Type 1} → statement M
 head-spec =
@@ -84,7 +84,7 @@ head-spec =
     cast-t8
     shared-slice-read-t15
     cast-t16
-    known-requires
+    planned-requires
     number-requires-2
     shared-slice-read-counted
     cast-counted

@@ -8,7 +8,7 @@ use lib.Seq.{length-take-le}
 use Rattle.answers.specs.Order.{first}
 use Rattle.paths.specs.Whole.{failed}
 use Rattle.mesh.specs.Kinds.{kindOf, meshOf}
-use Rattle.mesh.specs.Limits.{mostLinks, known-links}
+use Rattle.mesh.specs.Limits.{mostLinks, ends-links}
 use Rattle.mesh.specs.Requests.{ends-fine}
 use Rattle.judge.specs.Says.{Ruling, ruling, verdictTold, Asked, bundleAsked, askedTold}
 use Rattle.judge.specs.Asked.{ends-cut}
@@ -53,7 +53,7 @@ many c =
 most : (c : tie.After-enum-told) → c .before .before .before .before .bundle-paths .result ≤ mostLinks
 most c =
     let a = at (c .before .before) .args in
-    omega (arith, many c, known-links (a .mesh .kind) (a .mesh .size) (ends-fine (kindOf (a .mesh .kind)) (a .mesh .size) (a .source) (a .target) (fine c) .known))
+    omega (arith, many c, ends-links (a .mesh .kind) (a .mesh .size) (a .source) (a .target) (ends-fine (kindOf (a .mesh .kind)) (a .mesh .size) (a .source) (a .target) (fine c)))
 
 cut : (c : tie.After-enum-told)
     → let s = at (c .before .before) in take (c .before .before .before .before .bundle-paths .result) (replicate mostLinks (s .args .target)) ≡ asked s .targets
