@@ -82,10 +82,10 @@ fn main() {
 
 
 def listed():
-    """The model's cases of few places, of those with cuts one in three (the interpreter's steps are limited), with one list, as long as the shortest of its three
-    columns; then a list that is too short, with more against it."""
+    """The model's cases of few places, of those with cuts and of metacubes one in four (the interpreter's steps are limited), with one list, as long as the shortest
+    of its three columns; then a list that is too short, with more against it."""
     for i, (*case, room) in enumerate(cases()):
-        if len(case[4]) <= 64 and (not case[7] or i % 3 == 0):
+        if len(case[4]) <= 64 and (i % 4 == 0 or not case[7] and case[0] != 3):
             yield *case, min(room)
     places, counts = fan(1, 3, 0, [7, 1, 6])
     for room in (0, 2, 3):
