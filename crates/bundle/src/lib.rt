@@ -104,7 +104,7 @@ fn lay(mesh: Mesh, source: u64, target: u64, places: &mut [u64], counts: &mut [u
 
 // As many paths as a relay has links, from the source to the target, that share nothing but the two. Path i comes by link i of the target. It stands from the
 // place i * W on, where W is `mesh.bundle_places()`, source first and 2^64 - 1 in the places after its end; its hops stand in the counts at i. In the cube of 2 dimensions,
-// from 0 to 3, they are 0, 2, 3 and 0, 1, 3. Refuses with 1, 2, 5, 6, 8, and then changes nothing.
+// from 0 to 3, they are 0, 2, 3 and 0, 1, 3. Refuses with 1, 52, 2, 5, 6, 8, and then changes nothing.
 pub fn plan(mesh: Mesh, source: u64, target: u64, places: &mut [u64], counts: &mut [u64]) -> Checked
     ensures { λ r. ⌜ Planned (bundleAgainst (kindOf (mesh .kind)) (mesh .size) source target (bundleShort (meshOf (mesh .kind) (mesh .size)) (length (now (places .entry))) (length (now (counts .entry))))) (meshOf (mesh .kind) (mesh .size)) source target (now (places .entry)) (now (counts .entry)) r (now (places .exit)) (now (counts .exit)) ⌝ }
 {

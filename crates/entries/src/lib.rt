@@ -67,7 +67,7 @@ pub fn survivors<'a, 'b>(
 
 // Of a bundle from the source to the target, an entry for each path, as many as a relay has links, at the front of `out`; the entries after those stay.
 // Answers how many are whole. In the cube of 2 dimensions, of the paths 0, 1 and 0, 2, 3, 1, with relay 2 stopped, the entries are (1, 1, yes) and
-// (1, 3, no), and the answer is 1. Refuses with 1, 2, 5, 6, 8, or gives the judge's first finding, and then leaves `out` as it was.
+// (1, 3, no), and the answer is 1. Refuses with 1, 52, 2, 5, 6, 8, or gives the judge's first finding, and then leaves `out` as it was.
 // Proved by hand, as `survivors` is.
 pub fn bundle_survivors<'a, 'b>(
     mesh: Mesh,

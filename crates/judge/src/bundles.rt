@@ -42,7 +42,7 @@ pub fn judge_bundle_with(
 
 // Whether the places and counts hold a bundle from the source to the target, a path for each link, or the first finding. Path i begins at place i * W,
 // where W is `mesh.bundle_places()`, and its hops stand in the counts at i. In the cube of 2 dimensions, from 0 to 1, the places 0 1 F F F 0 2 3 1 F
-// (F is 2^64 - 1) and the counts 1 3 hold a bundle; with the path 0 1 twice the finding is 24 on path 1 at place 1. Refuses with 1, 2, 5, 6, 8. What
+// (F is 2^64 - 1) and the counts 1 3 hold a bundle; with the path 0 1 twice the finding is 24 on path 1 at place 1. Refuses with 1, 52, 2, 5, 6, 8. What
 // lies beyond the paths is not looked at.
 pub fn judge_bundle(mesh: Mesh, source: u64, target: u64, places: &[u64], counts: &[u64]) -> Verdict
     ensures { λ r. ⌜ specs.verdictTold r ≡ specs.bundleTold (kindOf (mesh .kind)) (mesh .size) source target (now (places .entry)) (now (counts .entry)) false ⌝ }

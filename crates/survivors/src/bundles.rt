@@ -11,7 +11,7 @@ use mesh::Mesh;
 // cut: for each path, as many as a relay has links, the target, its hops, and 1 if it is whole or else 0, in three columns; the places of a column after those
 // stay. Answers how many are whole.
 // In the cube of 2 dimensions, of the paths 0, 1 and 0, 2, 3, 1, with relay 2 stopped, the columns hold 1 1, 1 3 and 1 0, and the answer is 1. Refuses
-// with 1, 2, 5, 6, 8, or gives the judge's first finding, and then leaves the columns as they were.
+// with 1, 52, 2, 5, 6, 8, or gives the judge's first finding, and then leaves the columns as they were.
 pub fn bundle_survivors(
     mesh: Mesh,
     source: u64,
