@@ -12,8 +12,8 @@ use lib.Dec.{eqb, ltb}
 use borrow.Author.Tests.{not-false, ltb-false, eqb-false}
 use Rattle.scan.specs.Scan.{at, nowhere, pick}
 use Rattle.scan.specs.Laws.{true-false}
-use Rattle.answers.specs.Order.{Fault, fault-at, first, refuse, refuse-at, before, refuse-none, refused-not, append-none, servedFaults, pairFaults, endFaults, requestFaults, roomFaults}
-use Rattle.answers.specs.Pairs.{pair-sound, size-known, room-last, room-refused, room-short, room-granted}
+use Rattle.answers.specs.Order.{Fault, fault-at, first, refuse, refuse-at, refuse-none, refused-not, append-none, servedFaults, pairFaults, endFaults, requestFaults, roomFaults}
+use Rattle.answers.specs.Pairs.{pair-sound, size-known, room-refused, room-short, room-granted}
 use Rattle.answers.specs.Told.{against}
 use Rattle.answers.specs.declared.Refusal.{Refusal}
 use Rattle.answers.specs.declared.Refusal.the-variants.{UnknownSize, NotServed, TargetIsSource, NoRoom}
@@ -65,10 +65,6 @@ module _ (K : Kind) (n s : ℕ) (targets : List ℕ) where
   -- 1 to 7
   abbrev early : List Fault
   early = sizeFaultsIn K n ++ requestFaults (K .mesh n .relays) (K .mesh n .links) s targets
-
-  -- want of room is told last
-  pub request-room : (room : Bool) → requestAgainst K n s targets room ≡ before (requestAgainst K n s targets false) (refuse room NoRoom none)
-  request-room room = room-last early room
 
   pub request-fine : requestAgainst K n s targets false ≡ none → Fine K n s targets
   request-fine e =

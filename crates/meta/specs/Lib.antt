@@ -6,7 +6,6 @@ pub mod Needs
 pub mod Turns
 pub mod Far
 pub mod Ranks
-pub mod Ranked
 pub mod Once
 pub mod Walks
 pub mod Unique

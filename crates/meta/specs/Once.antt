@@ -12,14 +12,13 @@ use borrow.Author.Tests.{eq-eqb}
 use Rattle.bits.specs.Bit.{flip}
 use Rattle.scan.specs.Scan.{pick}
 use Rattle.paths.specs.Lists.{Fresh}
-use Rattle.paths.specs.Walk.{Arrives}
 use Rattle.paths.specs.Routed.{Routed, route-fresh}
+use Rattle.paths.specs.Ranked.{Ranked, ranked-most, ranked-routed}
 use Rattle.meta_parts.specs.Meta.{relays, classOf, partsOf, meta}
 use Rattle.meta_parts.specs.Sizes.{Sized}
 use Rattle.meta.specs.Next.{turn, next, hops, route}
 use Rattle.meta.specs.Turns as turns
 use Rattle.meta.specs.Ranks.{rank, rank-bound, rank-longest, next-less}
-use Rattle.meta.specs.Ranked.{Ranked, ranked-most, ranked-arrives, ranked-routed}
 
 -- the target is its own next hop
 pub next-there : (k m u t : ℕ) → u ≡ t → next k m u t ≡ u

@@ -20,7 +20,7 @@ use Rattle.scan.specs.Scan.{pick}
 use Rattle.scan.specs.Laws.{first-true, second-true}
 use Rattle.meta_parts.specs.Meta.{span, bits, relays, classOf, partsOf, part, linked}
 use Rattle.meta_parts.specs.Sizes.{Sized}
-use Rattle.meta_parts.specs.Parts.{class-below, parts-below, same-parts, class-xor, parts-xor, part-xor, part-below, part-bit, bit-within, bit-part}
+use Rattle.meta_parts.specs.Parts.{class-below, parts-below, same-parts, parts-xor, part-below, part-bit, bit-within, bit-part}
 use Rattle.meta_parts.specs.Near.{opens, linked-bit}
 use Rattle.meta.specs.Cycle.{after, after-flips}
 use Rattle.meta.specs.Next.{heading, turn, next}

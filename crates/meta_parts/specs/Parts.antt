@@ -26,10 +26,6 @@ module _ (k m : ℕ) where
   unfolding classOf partsOf
   same-parts u v e f = sym (split u (span k m)) ∙ ap₂ (λ (x y : ℕ). x * 2 ^ span k m + y) e f ∙ split v (span k m)
 
-  pub class-xor : (u v : ℕ) → classOf k m (bitXor u v) ≡ bitXor (classOf k m u) (classOf k m v)
-  unfolding classOf
-  class-xor u v = xor-shr u v (span k m)
-
   pub parts-xor : (u v : ℕ) → partsOf k m (bitXor u v) ≡ bitXor (partsOf k m u) (partsOf k m v)
   unfolding partsOf
   parts-xor u v = xor-mod u v (span k m)
@@ -56,10 +52,6 @@ module _ (k m : ℕ) where
 -- ---- one part
 
 module _ (m c : ℕ) where
-  pub part-xor : (u v : ℕ) → part m c (bitXor u v) ≡ bitXor (part m c u) (part m c v)
-  unfolding part
-  part-xor u v = ap (λ (x : ℕ). x % 2 ^ m) (xor-shr u v (m * c)) ∙ xor-mod (u / 2 ^ (m * c)) (v / 2 ^ (m * c)) m
-
   pub part-below : (u : ℕ) → part m c u < 2 ^ m
   unfolding part
   part-below u = mod-lt (u / 2 ^ (m * c)) (pow-pos m)

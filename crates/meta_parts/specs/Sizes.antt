@@ -77,7 +77,3 @@ module _ {k m : ℕ} (s : Sized k m) where
 
   pub longest-few : longest k m ≤ 44
   longest-few = omega (arith, s .narrow, classes-few (s .few))
-
-  -- a path has a place more than a relay has links, at least: the longest path is no shorter than the mesh is wide
-  pub bits-longest : k + m * 2 ^ k ≤ longest k m
-  bits-longest = omega arith

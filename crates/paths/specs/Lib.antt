@@ -21,6 +21,7 @@ pub mod Ends
 pub mod Ways
 pub mod Metric
 pub mod Routed
+pub mod Ranked
 pub mod Links
 pub mod Doors
 pub mod Bundle

@@ -1,6 +1,6 @@
 -- One hop of the plain route, and the route. A hop changes one slot bit towards the heading, or crosses (`step`); so it is a link
 -- (`next-linked`) and stays in the mesh (`next-below`). Each hop brings the rank down (`next-less`), so every walk arrives, after at most
--- 2 ^ (m + 1) + 2 * m - 1 hops (`walk-arrives`, `hops-bound`). Of `crossing` only what Crossing.antt says is used. Assumes nothing.
+-- 2 ^ (m + 1) + 2 * m - 1 hops (`plain-routed`, `hops-bound`). Of `crossing` only what Crossing.antt says is used. Assumes nothing.
 use Prim.Native.Nat.{ℕ, zero, suc, _+_, _-_, _*_, _^_, _≤_, _<_}
 use mathlib.Core.Path.{_≡_, refl, sym, ap, ap₂, _∙_, subst}
 use mathlib.Core.Bool.{Bool, true, false}
@@ -17,16 +17,16 @@ use borrow.Author.Tests.{eq-eqb, ne-eqb}
 use Rattle.bits.specs.Bit.{bit, flip}
 use Rattle.bits.specs.Laws.{trailing-lowest, xor-zero-eq, flip-lt, flip-xor, ones-clear}
 use Rattle.scan.specs.Scan.{pick}
-use Rattle.paths.specs.Mesh.{width}
 use Rattle.paths.specs.Walk.{node, Arrives}
-use Rattle.paths.specs.Walks.{hops-is}
+use Rattle.paths.specs.Routed.{Routed}
+use Rattle.paths.specs.Ranked.{Ranked, ranked-most, ranked-routed}
+use Rattle.paths.specs.Ranked as ranks
 use Rattle.two_parts.specs.Two.{slots, blocks, relays, longest, blockOf, slotOf, relay, linked, two}
 use Rattle.two.specs.Next.{place, crossing, toward, heading, crossed, nextBlock, nextSlot, next, hops}
 use Rattle.two.specs.Next as def
 use Rattle.two.specs.Crossing.{place-below, place-later, crossing-below, crossing-bit, crossing-flip-lt, crossing-near}
 use Rattle.two_parts.specs.Parts.{block-relay, slot-relay, relay-parts, relay-below, block-below, slot-below, same-parts}
 use Rattle.two_parts.specs.Links.{Link, link-linked, link-within}
-use Rattle.paths.specs.Ends.{walk-ends, node-keeps}
 
 -- ---- the next hop's parts, case by case
 
@@ -267,26 +267,31 @@ module _ (m t : ℕ) (ht : t < relays m) where
       let e = heading-same m c c q refl in
       ap₂ (relay m) (crossed-there c q c (heading m c c q) refl) (toward-there m q (heading m c c q) (sym e)) ∙ relay-parts m t
 
+  -- how far it is to t, at most
+  abbrev far : ℕ → ℕ
+  far u = rank m (blockOf m u) (slotOf m u) c q
+
+  far-bound : (u : ℕ) → u < relays m → far u ≤ 2 ^ (m + 1) + 2 * m - 1
+  far-bound u h = rank-bound m (blockOf m u) (slotOf m u) c q (block-below m u h) (slot-below m u) (block-below m t ht) (slot-below m t)
+
+  pub ranked : Ranked (two m) (next m) far t
+  ranked = record {
+    short = λ u h. omega (arith, far-bound u h, most-longest m);
+    below = λ u h. next-below u h;
+    linked = λ u h ne. next-linked u h ne;
+    falls = λ u h ne. next-less u h ne;
+  }
+
   pub node-below : (s k : ℕ) → s < relays m → node (next m) s t k < relays m
-  node-below s k h = node-keeps (next m) t (λ u. u < relays m) (λ u l. next-below u l) s k h
+  node-below s k h = ranks.node-below (two m) (next m) far t ranked s h k
 
-  pub walk-arrives : (s : ℕ) → s < relays m → (k : ℕ) × (k ≤ 2 ^ (m + 1) + 2 * m - 1) × Arrives (next m) s t k
-  walk-arrives s h =
-      walk-ends (next m) t (λ u. u < relays m) (λ u. rank m (blockOf m u) (slotOf m u) c q) (λ u l. next-below u l) (λ u l ne. next-less u l ne)
-      (2 ^ (m + 1) + 2 * m - 1) s h (rank-bound m (blockOf m s) (slotOf m s) c q (block-below m s h) (slot-below m s) (block-below m t ht) (slot-below m t))
-
-  -- the hop count is the number of steps needed to arrive
-  pub hops-arrive : (s : ℕ) → s < relays m → Arrives (next m) s t (hops m s t)
+  pub plain-routed : (s : ℕ) → s < relays m → Routed (two m) (next m) s t (hops m s t)
   unfolding hops
-  hops-arrive s h =
-      let (k, l, a) = walk-arrives s h in
-      subst (λ (n : ℕ). Arrives (next m) s t n) (sym (hops-is (next m) s t (width (two m)) k (omega (arith, most-longest m)) a)) a
+  plain-routed s h = ranked-routed (two m) (next m) far t ranked s h
+
+  pub hops-arrive : (s : ℕ) → s < relays m → Arrives (next m) s t (hops m s t)
+  hops-arrive s h = plain-routed s h .arrives
 
   pub hops-bound : (s : ℕ) → s < relays m → hops m s t ≤ 2 ^ (m + 1) + 2 * m - 1
   unfolding hops
-  hops-bound s h = let (k, l, a) = walk-arrives s h in subst (λ (n : ℕ). n ≤ 2 ^ (m + 1) + 2 * m - 1) (sym (hops-is (next m) s t (width (two m)) k (omega (arith, most-longest m)) a)) l
-
-  -- the hops of the route are links
-  pub route-linked : (s k : ℕ) → s < relays m → k < hops m s t → linked m (node (next m) s t k) (node (next m) s t (suc k)) ≡ true
-  unfolding node
-  route-linked s k h l = next-linked (node (next m) s t k) (node-below s k h) (hops-arrive s h .not-before k l)
+  hops-bound s h = omega (arith, ranked-most (two m) (next m) far t ranked s h, far-bound s h)
