@@ -379,6 +379,34 @@ void judged(const Fan &f, const Failed &fails, size_t e, size_t h, size_t w) {
   held("judge, survivors, writer: what is read", targets.untouched() && places.untouched() && counts.untouched() && stops.untouched() && cuts.untouched(), m, f.source);
 }
 
+// Many relays, some of them of the fan: as stopped ones, and two by two as cut links.
+Words crowd(const Fan &f) {
+  Words all;
+  for (int i = 0; i < 300; ++i) all.push_back(below(12) ? below(f.mesh.relays()) : f.places[below(f.places.size())]);
+  return all;
+}
+
+// A path's relays as pairs of cuts, the first of them the second of its pair: every other link is cut, and those between are not.
+Words staggered(const Fan &f, size_t row) {
+  const auto from = f.places.begin() + row * f.mesh.width();
+  Words all{f.targets[row]};
+  all.insert(all.end(), from, from + f.counts[row] + 1);
+  return all;
+}
+
+// Path `row` leads over a relay of another path, by the plain route on from there: seen again, on the later of the two.
+void crossed(Fan &bad, const Fan &good, size_t row, size_t other) {
+  const size_t w = good.mesh.width(), p = 1 + below(good.counts[other]);
+  const auto from = good.places.begin() + other * w;
+  Words path(from, from + p);
+  const Words on = good.mesh.route(from[p], good.targets[row]);
+  path.insert(path.end(), on.begin(), on.end());
+  if (path.size() > w) return;
+  bad.counts[row] = path.size() - 1;
+  path.resize(w, model::kUnused);
+  std::copy(path.begin(), path.end(), bad.places.begin() + row * w);
+}
+
 void fans() {
   std::vector<Mesh> all = meshes();
   for (Mesh mesh : metacubes()) all.push_back(mesh);
@@ -391,6 +419,9 @@ void fans() {
       judged(good, {{}, fails.cuts}, k, k, k);
       judged(good, {}, k + 2, k + 1, k + 3);
       judged(good, {{good.source}, fails.cuts}, k, k, k);
+      judged(good, {crowd(good), fails.cuts}, k, k, k);
+      judged(good, {fails.stopped, crowd(good)}, k, k, k);
+      judged(good, {{}, staggered(good, below(k))}, k, k, k);
       judged(good, fails, k - 1, k, k);
       judged(good, fails, k, k - 1, k);
       judged(good, fails, k, k, k - 1);
@@ -399,7 +430,7 @@ void fans() {
         const size_t w = mesh.width();
         for (int f = 0; f < 1 + (int)below(2); ++f) {
           const size_t at = below(bad.places.size()), row = below(k);
-          switch (below(13)) {
+          switch (below(14)) {
             case 0: bad.places[at] = dice(); break;
             case 1: bad.places[at] = below(mesh.relays()); break;
             case 2: bad.places[at] = bad.places[below(bad.places.size())]; break;
@@ -419,6 +450,7 @@ void fans() {
                 bad.counts[row] = good.counts[row] + 2;
               }
               break;
+            case 13: crossed(bad, good, row, below(k)); break;
           }
           if (bad.counts.size() < k || bad.places.size() < k * w || bad.targets.size() < k) break;
         }
