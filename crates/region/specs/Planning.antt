@@ -5,7 +5,7 @@ use Prim.Native.Nat.{ℕ, _+_, _-_, _*_, _/_, _%_, _≤_, _<_}
 use mathlib.Core.Path.{_≡_, refl, sym, ap, ap₂, _∙_, subst}
 use mathlib.Core.Bool.{Bool, true, false, not}
 use mathlib.Core.Logic.{_⊎_, inl, inr, _≢_}
-use mathlib.Core.List.{List, _++_}
+use mathlib.Core.List.{List, [], _++_}
 use mathlib.Core.Option.{Option, none, some}
 use native.Mathlib.Nat.{mul-le-mul, mul-le-mul-right, le-trans}
 use native.Mathlib.Omega.{arith}
@@ -32,7 +32,7 @@ use Rattle.mesh.specs.Requests.{plan-fine, plan-asked, room-enough}
 use Rattle.requests.specs.Planned as requests
 use Rattle.requests.specs.Planned.{not-both}
 use Rattle.planner.specs.Needs as planner
-use Rattle.sheet.specs.Format.{relaysAt}
+use Rattle.sheet.specs.Format.{VERSION, relaysAt}
 use Rattle.sheet.specs.Says.{settled, flawed, lone}
 use Rattle.sheet.specs.Pieces.{at-front}
 use Rattle.sheet.specs.Lengths.{relays-count}
@@ -126,7 +126,7 @@ module _ (kind size s : ℕ) (targets : List ℕ) where
   lay-answered {places} {counts} {places₁} {counts₁} {out} {out₁} p f q =
       let sheet = bytes kind size s (length targets) places₁ counts₁ in
       let j = lay-judged p f in
-      let fits : length sheet ≤ length out = omega (arith, fan-sheet-most (meshOf kind size) s targets places₁ counts₁ (j .fan) kind size, p .long) in
+      let fits : length sheet ≤ length out = omega (arith, fan-sheet-most (meshOf kind size) s targets places₁ counts₁ (j .fan) VERSION kind size [], p .long) in
       record {
         places = places₁;
         counts = counts₁;

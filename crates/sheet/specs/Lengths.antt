@@ -1,59 +1,72 @@
--- How long things are: the bytes of paths and of a sheet, 16 and for each path 2 and 8 for each hop (`sheet-bytes`); the paths of bytes and of slices
+-- How long things are: the bytes of paths and of a sheet, 16 and for each path its head, in version 1 of 2 bytes, and 8 for each hop (`sheet-bytes`); the paths of bytes and of slices
 -- (`paths-length`, `pathsFrom-length`), and what is lent of them (`row-length`, `counts-length`, `targets-length`). Assumes nothing.
 use Prim.Native.Nat.{ℕ, zero, suc, _+_, _*_, _≤_, _-_}
 use mathlib.Core.Path.{_≡_, refl, ap, _∙_}
+use mathlib.Core.Bool.{Bool, true, false}
 use mathlib.Core.List.{List, [], _∷_, _++_}
 use native.Mathlib.Omega.{arith}
-use lib.ListN.{length, length-append, replicate, length-replicate}
+use lib.ListN.{length, getD, drop, length-append, replicate, length-replicate}
+use Rattle.scan.specs.Scan.{pick}
 use Rattle.octets.specs.Big.{big, big-length}
 use Rattle.paths.specs.Fan.{filler}
-use Rattle.sheet.specs.Format.{fields, relaysBytes, pathBytes, pathsBytes, bodyOf, sheetOf, pathsFrom, HEAD, relaysAt, after, pathsAt, row, countsOf, targetsOf}
+use Rattle.sheet.specs.Format.{fields, zoned, head, zoneBytes, relaysBytes, pathBytes, pathsBytes, bodyOf, sheetOf, pathsFrom, HEAD, relaysAt, after, pathsAt, row, countsOf, targetsOf}
 
 pub relays-length : (l : List ℕ) → length (relaysBytes l) ≡ length l * 8
 unfolding relaysBytes
 relays-length [] = refl
 relays-length (x ∷ l) = length-append (big 8 x) (relaysBytes l) ∙ omega (arith, big-length 8 x, relays-length l)
 
-pub path-length : (p : List ℕ) → length (pathBytes p) ≡ 2 + length p * 8
+-- the zone is the rest of a path's head
+pub zone-length : (v zone : ℕ) → 2 + length (zoneBytes v zone) ≡ head v
+zone-length v zone = go (zoned v)
+  where
+    go : (b : Bool) → 2 + length (pick b (big 4 zone) []) ≡ pick b 6 2
+    go true = omega (arith, big-length 4 zone)
+    go false = refl
+
+pub path-length : (v zone : ℕ) (p : List ℕ) → length (pathBytes v zone p) ≡ head v + length p * 8
 unfolding pathBytes
-path-length p = length-append (big 2 (length p)) (relaysBytes p) ∙ omega (arith, big-length 2 (length p), relays-length p)
+path-length v zone p =
+    length-append (big 2 (length p)) (zoneBytes v zone ++ relaysBytes p)
+    ∙ omega (arith, big-length 2 (length p), length-append (zoneBytes v zone) (relaysBytes p), zone-length v zone, relays-length p)
 
 -- the sheet is its head and its paths
-module _ (kind size s : ℕ) (ps : List (List ℕ)) where
-  pub body-length : length (bodyOf kind size s ps) ≡ length (pathsBytes ps) + 12
+module _ (v kind size s : ℕ) (zones : List ℕ) (ps : List (List ℕ)) where
+  pub body-length : length (bodyOf v kind size s zones ps) ≡ length (pathsBytes v zones ps) + 12
   unfolding bodyOf
   body-length =
-      length-append (fields kind size (length ps) ++ big 8 s) (pathsBytes ps)
-      ∙ omega (arith, length-append (fields kind size (length ps)) (big 8 s), big-length 8 s)
+      length-append (fields v kind size (length ps) ++ big 8 s) (pathsBytes v zones ps)
+      ∙ omega (arith, length-append (fields v kind size (length ps)) (big 8 s), big-length 8 s)
 
-  pub sheet-length : length (sheetOf kind size s ps) ≡ length (pathsBytes ps) + 16
+  pub sheet-length : length (sheetOf v kind size s zones ps) ≡ length (pathsBytes v zones ps) + 16
   unfolding sheetOf
   sheet-length =
-      length-append (big 4 (length (bodyOf kind size s ps))) (bodyOf kind size s ps)
-      ∙ omega (arith, big-length 4 (length (bodyOf kind size s ps)), body-length)
+      length-append (big 4 (length (bodyOf v kind size s zones ps))) (bodyOf v kind size s zones ps)
+      ∙ omega (arith, big-length 4 (length (bodyOf v kind size s zones ps)), body-length)
 
 -- the bytes that paths take
-unfoldable pub bytesOf : List (List ℕ) → ℕ
-bytesOf [] = 0
-bytesOf (p ∷ l) = 2 + 8 * length p + bytesOf l
+unfoldable pub bytesOf : (v : ℕ) → List (List ℕ) → ℕ
+bytesOf v [] = 0
+bytesOf v (p ∷ l) = head v + 8 * length p + bytesOf v l
 
-pub paths-bytes : (ps : List (List ℕ)) → length (pathsBytes ps) ≡ bytesOf ps
+pub paths-bytes : (v : ℕ) (zones : List ℕ) (ps : List (List ℕ)) → length (pathsBytes v zones ps) ≡ bytesOf v ps
 unfolding pathsBytes bytesOf
-paths-bytes [] = refl
-paths-bytes (p ∷ l) = length-append (pathBytes p) (pathsBytes l) ∙ omega (arith, path-length p, paths-bytes l)
+paths-bytes v zones [] = refl
+paths-bytes v zones (p ∷ l) =
+    length-append (pathBytes v (getD zones 0 0) p) (pathsBytes v (drop 1 zones) l) ∙ omega (arith, path-length v (getD zones 0 0) p, paths-bytes v (drop 1 zones) l)
 
-pub sheet-bytes : (kind size s : ℕ) (ps : List (List ℕ)) → length (sheetOf kind size s ps) ≡ HEAD + bytesOf ps
-sheet-bytes kind size s ps = sheet-length kind size s ps ∙ omega (arith, paths-bytes ps)
+pub sheet-bytes : (v kind size s : ℕ) (zones : List ℕ) (ps : List (List ℕ)) → length (sheetOf v kind size s zones ps) ≡ HEAD + bytesOf v ps
+sheet-bytes v kind size s zones ps = sheet-length v kind size s zones ps ∙ omega (arith, paths-bytes v zones ps)
 
 pub relays-count : (l : List ℕ) (at n : ℕ) → length (relaysAt l at n) ≡ n
 unfolding relaysAt
 relays-count l at zero = refl
 relays-count l at (suc n) = ap suc (relays-count l (at + 8) n)
 
-pub paths-length : (l : List ℕ) (at k : ℕ) → length (pathsAt l at k) ≡ k
+pub paths-length : (v : ℕ) (l : List ℕ) (at k : ℕ) → length (pathsAt v l at k) ≡ k
 unfolding pathsAt
-paths-length l at zero = refl
-paths-length l at (suc k) = ap suc (paths-length l (after l at) k)
+paths-length v l at zero = refl
+paths-length v l at (suc k) = ap suc (paths-length v l (after v l at) k)
 
 pub pathsFrom-length : (w : ℕ) (places counts : List ℕ) (i n : ℕ) → length (pathsFrom w places counts i n) ≡ n
 unfolding pathsFrom

@@ -16,7 +16,7 @@ use Rattle.mesh.specs.Kinds.{meshOf}
 use Rattle.mesh.specs.Limits.{mostLinks, mostPlaces, planned-links, known-width, planned-places}
 use Rattle.mesh.specs.declared.Mesh as code
 use Rattle.judge.specs.Says.{Ruling, ruling, numberOf, pathOf, placeOf}
-use Rattle.sheet.specs.Format.{HEAD, kindAt, sizeAt, countAt, pathsAt}
+use Rattle.sheet.specs.Format.{VERSION, HEAD, kindAt, sizeAt, countAt, pathsAt}
 use Rattle.sheet.specs.Says.{before, reads, readingTold}
 use Rattle.sheet.specs.declared.Flaw.{Flaw}
 use Rattle.sheet_take.specs.Says.{looked}
@@ -30,16 +30,16 @@ ruling-back : (n i p : ℕ) (v : Ruling) → n ≡ numberOf v → i ≡ pathOf v
 ruling-back n i p (ruling x y z) a b c = ap₂ (λ (x y : ℕ). ruling x y p) a b ∙ ap (ruling x y) c
 
 module _ {l : List ℕ} {kind size s k : ℕ} (b : Bodied l kind size s k) {longest : ℕ} (e : longest ≡ meshOf kind size .longest) where
-  pub looked-is : looked longest l HEAD 0 k ≡ looked (meshAt l .longest) l HEAD 0 (countAt l)
-  looked-is = ap₂ (λ (x n : ℕ). looked x l HEAD 0 n) (e ∙ ap (λ (m : Mesh). m .longest) (mesh-is b)) (b .count-is)
+  pub looked-is : looked VERSION longest l HEAD 0 k ≡ looked VERSION (meshAt l .longest) l HEAD 0 (countAt l)
+  looked-is = ap₂ (λ (x n : ℕ). looked VERSION x l HEAD 0 n) (e ∙ ap (λ (m : Mesh). m .longest) (mesh-is b)) (b .count-is)
 
-  paths-is : {o x : Option Flaw} → o ≡ looked longest l HEAD 0 k → x ≡ ruled (sheetRuling l) → before o x ≡ pathsAgainst l
+  paths-is : {o x : Option Flaw} → o ≡ looked VERSION longest l HEAD 0 k → x ≡ ruled (sheetRuling l) → before o x ≡ pathsAgainst l
   paths-is p q = ap₂ before (p ∙ looked-is) q
 
-  pub paths-flawed : {g : Flaw} → some g ≡ looked longest l HEAD 0 k → readingTold (reading.Refused g) ≡ sheetTold l (pathsAgainst l)
+  pub paths-flawed : {g : Flaw} → some g ≡ looked VERSION longest l HEAD 0 k → readingTold (reading.Refused g) ≡ sheetTold l (pathsAgainst l)
   paths-flawed h = ap (sheetTold l) (paths-is {x = ruled (sheetRuling l)} h refl)
 
-  module _ (h : none ≡ looked longest l HEAD 0 k) where
+  module _ (h : none ≡ looked VERSION longest l HEAD 0 k) where
     pub paths-judgeable : Judgeable l kind size longest k mostPlaces mostLinks mostLinks
     paths-judgeable =
         let all = mul-le-mul-right (longest + 1) (body-few b) in
@@ -55,11 +55,11 @@ module _ {l : List ℕ} {kind size s k : ℕ} (b : Bodied l kind size s k) {long
         }
 
     -- the verdict, and its number as code has it
-    module _ {v : Ruling} {n : ℕ} (g : v ≡ rulingOf kind size s (pathsAt l HEAD k)) (is : n ≡ numberOf v) where
+    module _ {v : Ruling} {n : ℕ} (g : v ≡ rulingOf kind size s (pathsAt VERSION l HEAD k)) (is : n ≡ numberOf v) where
       ruling-is : v ≡ sheetRuling l
       ruling-is =
-          g ∙ ap₂ (λ (x y : ℕ). rulingOf x y s (pathsAt l HEAD k)) (b .kind-is) (b .size-is)
-          ∙ ap₂ (λ (x y : ℕ). rulingOf (kindAt l) (sizeAt l) x (pathsAt l HEAD y)) (b .source-is) (b .count-is)
+          g ∙ ap₂ (λ (x y : ℕ). rulingOf x y s (pathsAt VERSION l HEAD k)) (b .kind-is) (b .size-is)
+          ∙ ap₂ (λ (x y : ℕ). rulingOf (kindAt l) (sizeAt l) x (pathsAt VERSION l HEAD y)) (b .source-is) (b .count-is)
 
       -- what the verdict is told as
       ruled-is : (y : Bool) → eqb n 0 ≡ y → pick y none (some (flawIn v)) ≡ ruled (sheetRuling l)

@@ -52,7 +52,7 @@ module _ (l : List ℕ) where
 
   -- the paths, and how they are lent
   abbrev pub sheetPaths : List (List ℕ)
-  sheetPaths = pathsAt l HEAD (countAt l)
+  sheetPaths = pathsAt VERSION l HEAD (countAt l)
 
   abbrev pub sheetTargets : List ℕ
   sheetTargets = targetsOf (sourceAt l) sheetPaths
@@ -77,7 +77,7 @@ module _ (l : List ℕ) where
 
   -- 30 and 34 path by path, 36; 2, 5, 6, 7; 22 and 24 path by path
   abbrev pub pathsAgainst : Option Flaw
-  pathsAgainst = before (looked (meshAt .longest) l HEAD 0 (countAt l)) (ruled sheetRuling)
+  pathsAgainst = before (looked VERSION (meshAt .longest) l HEAD 0 (countAt l)) (ruled sheetRuling)
 
   -- what stands against a sheet of which nothing is taken out
   abbrev pub checkAgainst : Option Flaw

@@ -156,16 +156,16 @@ module _ (kind size s : ℕ) (ps : List (List ℕ)) (h : Held kind size ps) wher
 
 module _ (l : List ℕ) where
   -- the paths after a head with nothing wrong, looked through
-  module _ (e : headAgainst l ≡ none) (g : looked (meshAt l .longest) l HEAD 0 (countAt l) ≡ none) where
+  module _ (e : headAgainst l ≡ none) (g : looked VERSION (meshAt l .longest) l HEAD 0 (countAt l) ≡ none) where
     sheet-held : Held (kindAt l) (sizeAt l) (sheetPaths l)
     sheet-held =
         let b : Bodied l (kindAt l) (sizeAt l) (sourceAt l) (countAt l) = record { head = e; kind-is = refl; size-is = refl; source-is = refl; count-is = refl } in
-        let many = paths-length l HEAD (countAt l) in
+        let many = paths-length VERSION l HEAD (countAt l) in
         record {
           known-mesh = body-known b;
           some-path = λ z. body-some b (sym many ∙ z);
           few = omega (arith, many, body-few b);
-          within = looked-within (meshAt l .longest) l HEAD 0 (countAt l) g;
+          within = looked-within VERSION (meshAt l .longest) l HEAD 0 (countAt l) g;
         }
 
     sheet-case : (P : Ruling → Type 0) → P (ruling 0 0 0) → P (ruling 2 0 0) → ((p : ℕ) → P (ruling 5 0 p)) → ((p : ℕ) → P (ruling 6 0 p)) → ((p : ℕ) → P (ruling 7 0 p))
@@ -200,14 +200,14 @@ module _ (l : List ℕ) where
       go false false false false true = refl
       go false false false false false = refl
 
-  listed-looked : (longest from i k : ℕ) → Listed (looked longest l from i k)
+  listed-looked : (longest from i k : ℕ) → Listed (looked VERSION longest l from i k)
   unfolding looked has among any seek
   listed-looked longest from i zero = go (not (eqb from (length l)))
     where
       go : (a : Bool) → Listed (flawed a flaw.LeftOver none)
       go true = refl
       go false = refl
-  listed-looked longest from i (suc k) = go (ltb (length l) (from + 2)) (badHops longest (hopsAt l from)) (ltb (length l) (after l from)) (looked longest l (after l from) (suc i) k) (listed-looked longest (after l from) (suc i) k)
+  listed-looked longest from i (suc k) = go (ltb (length l) (from + 2)) (badHops longest (hopsAt l from)) (ltb (length l) (after VERSION l from)) (looked VERSION longest l (after VERSION l from) (suc i) k) (listed-looked longest (after VERSION l from) (suc i) k)
     where
       go : (a b c : Bool) (rest : Option Flaw) → Listed rest → Listed (flawed a flaw.Cut (flawed b (flaw.Hops i) (flawed c flaw.Cut rest)))
       go true b c rest r = refl
@@ -215,7 +215,7 @@ module _ (l : List ℕ) where
       go false false true rest r = refl
       go false false false rest r = r
 
-  listed-ruled : headAgainst l ≡ none → looked (meshAt l .longest) l HEAD 0 (countAt l) ≡ none → Listed (ruled (sheetRuling l))
+  listed-ruled : headAgainst l ≡ none → looked VERSION (meshAt l .longest) l HEAD 0 (countAt l) ≡ none → Listed (ruled (sheetRuling l))
   unfolding has among any seek
   listed-ruled e g = sheet-case l e g (λ (r : Ruling). Listed (ruled r)) refl refl (λ p. refl) (λ p. refl) (λ p. refl) (λ i p. refl) (λ i p. refl)
 
@@ -226,4 +226,4 @@ module _ (l : List ℕ) where
   pub check-numbers : Listed (checkAgainst l)
   check-numbers =
       listed-before (headAgainst l) (pathsAgainst l) listed-head
-      (λ e. listed-before (looked (meshAt l .longest) l HEAD 0 (countAt l)) (ruled (sheetRuling l)) (listed-looked (meshAt l .longest) HEAD 0 (countAt l)) (λ g. listed-ruled e g))
+      (λ e. listed-before (looked VERSION (meshAt l .longest) l HEAD 0 (countAt l)) (ruled (sheetRuling l)) (listed-looked (meshAt l .longest) HEAD 0 (countAt l)) (λ g. listed-ruled e g))

@@ -3,7 +3,7 @@ ghost use mathlib.Core.Path.{_≡_};
 ghost use lib.ListN.{length};
 ghost use Rattle.mesh.specs.Limits.{mostLinks, mostPlaces};
 ghost use Rattle.judge.specs.Says.{verdictTold, ruling};
-ghost use Rattle.sheet.specs.Format.{HEAD, pathsAt};
+ghost use Rattle.sheet.specs.Format.{VERSION, HEAD, pathsAt};
 ghost use Rattle.sheet.specs.Says.{readingTold};
 ghost use Rattle.sheet_check.specs.Says.{sheetTold, pathsAgainst, rulingOf, flawIn};
 ghost use Rattle.sheet_check.specs.Needs.{Bodied, Judgeable};
@@ -25,7 +25,7 @@ fn judged_in(
     targets: &mut [u64],
 ) -> Verdict
     requires { ⌜ Judgeable (now bytes) (mesh .kind) (mesh .size) longest k (length (now places)) (length (now counts)) (length (now targets)) ⌝ }
-    ensures { λ r. ⌜ verdictTold r ≡ rulingOf (mesh .kind) (mesh .size) source (pathsAt (now (bytes .entry)) HEAD k) ⌝ }
+    ensures { λ r. ⌜ verdictTold r ≡ rulingOf (mesh .kind) (mesh .size) source (pathsAt VERSION (now (bytes .entry)) HEAD k) ⌝ }
 {
     sheet_take::take_paths(bytes, source, longest, k, places, counts, targets);
     let end = k * (longest + 1);
@@ -35,7 +35,7 @@ fn judged_in(
 // The same, in room of its own: as much as any mesh wants.
 fn judged(mesh: Mesh, source: u64, longest: usize, k: usize, bytes: &[u8]) -> Verdict
     requires { ⌜ Judgeable (now bytes) (mesh .kind) (mesh .size) longest k mostPlaces mostLinks mostLinks ⌝ }
-    ensures { λ r. ⌜ verdictTold r ≡ rulingOf (mesh .kind) (mesh .size) source (pathsAt (now (bytes .entry)) HEAD k) ⌝ }
+    ensures { λ r. ⌜ verdictTold r ≡ rulingOf (mesh .kind) (mesh .size) source (pathsAt VERSION (now (bytes .entry)) HEAD k) ⌝ }
 {
     let mut places = [0u64; mesh::MOST_PLACES];
     let mut counts = [0u64; mesh::MOST_LINKS];

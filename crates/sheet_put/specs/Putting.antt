@@ -12,7 +12,7 @@ use Rattle.paths.specs.Fan.{hops}
 use Rattle.paths.specs.Lists.{ahead, ahead-length}
 use Rattle.paths.specs.Read.{read}
 use Rattle.paths.specs.Places.{row-below}
-use Rattle.sheet.specs.Format.{relaysBytes, pathBytes, pathsBytes, pathsFrom, pathsOf}
+use Rattle.sheet.specs.Format.{VERSION, relaysBytes, pathBytes, pathsBytes, pathsFrom, pathsOf}
 use Rattle.sheet.specs.Lengths.{relays-length}
 use Rattle.sheet.specs.Pieces.{after-put}
 use Rattle.sheet_put.specs.Needs.{Paths}
@@ -58,7 +58,7 @@ pub relayed-ends : {places : List ℕ} {from n at : ℕ} {out₀ out : List ℕ}
 relayed-ends {places} {from} {n} {at} {out₀} {out} {i} v l = v .is ∙ ap (λ (j : ℕ). sets out₀ at (relaysBytes (ahead places from j))) (omega (arith, v .within))
 
 pub path-put : (places : List ℕ) (from h at : ℕ) (out₀ : List ℕ) {out₁ out₂ : List ℕ} → out₁ ≡ sets out₀ at (big 2 h) → out₂ ≡ sets out₁ (at + 2) (relaysBytes (ahead places from h))
-    → out₂ ≡ sets out₀ at (pathBytes (ahead places from h))
+    → out₂ ≡ sets out₀ at (pathBytes VERSION 0 (ahead places from h))
 unfolding pathBytes
 path-put places from h at out₀ {out₁} {out₂} p q =
     q ∙ ap (λ (o : List ℕ). sets o (at + 2) (relaysBytes (ahead places from h))) p
@@ -71,7 +71,7 @@ pub record Laying (w : ℕ) (places counts : List ℕ) (k at : ℕ) (out₀ out 
   pub room : at + total counts k ≤ length out₀
   pub to-is : to ≡ at + total counts i
   pub long : length out ≡ length out₀
-  pub is : out ≡ sets out₀ at (pathsBytes (pathsOf w places counts i))
+  pub is : out ≡ sets out₀ at (pathsBytes VERSION [] (pathsOf w places counts i))
 
 pub laying-starts : {w : ℕ} {places counts : List ℕ} {k at : ℕ} {out : List ℕ} → Paths w k (length places) counts → at + total counts k ≤ length out → Laying w places counts k at out out at 0
 unfolding total pathsBytes pathsFrom
@@ -89,22 +89,22 @@ laying-room {w} {places} {counts} {k} {at} {out₀} {out} {to} {i} v l = (
 )
 
 pub laying-more : {w : ℕ} {places counts : List ℕ} {k at : ℕ} {out₀ out out₁ : List ℕ} {to i h : ℕ} → Laying w places counts k at out₀ out to i → i < k → h ≡ getD counts i 0
-    → out₁ ≡ sets out to (pathBytes (ahead places (i * w + 1) h)) → Laying w places counts k at out₀ out₁ (to + 2 + h * 8) (i + 1)
+    → out₁ ≡ sets out to (pathBytes VERSION 0 (ahead places (i * w + 1) h)) → Laying w places counts k at out₀ out₁ (to + 2 + h * 8) (i + 1)
 unfolding hops
 laying-more {w} {places} {counts} {k} {at} {out₀} {out} {out₁} {to} {i} {h} v l e p = record {
   asked = v .asked;
   within = omega arith;
   room = v .room;
   to-is = ap₂ (λ (x y : ℕ). x + 2 + y * 8) (v .to-is) e ∙ omega (arith, total-more counts i, ap (total counts) (add-one i));
-  long = ap length p ∙ length-sets out to (pathBytes (ahead places (i * w + 1) h)) ∙ v .long;
+  long = ap length p ∙ length-sets out to (pathBytes VERSION 0 (ahead places (i * w + 1) h)) ∙ v .long;
   is =
-      p ∙ ap₂ (λ (o : List ℕ) (j : ℕ). sets o to (pathBytes (ahead places (i * w + 1) j))) (v .is) e
-      ∙ after-put run (pathBytes (read w places counts i)) out₀ at to (v .to-is ∙ ap (λ (j : ℕ). at + j) (sym (paths-total w places counts i)))
-      ∙ ap (sets out₀ at) (sym (pathsOf-more w places counts i) ∙ ap (λ (j : ℕ). pathsBytes (pathsOf w places counts j)) (sym (add-one i)));
+      p ∙ ap₂ (λ (o : List ℕ) (j : ℕ). sets o to (pathBytes VERSION 0 (ahead places (i * w + 1) j))) (v .is) e
+      ∙ after-put run (pathBytes VERSION 0 (read w places counts i)) out₀ at to (v .to-is ∙ ap (λ (j : ℕ). at + j) (sym (paths-total w places counts i)))
+      ∙ ap (sets out₀ at) (sym (pathsOf-more w places counts i) ∙ ap (λ (j : ℕ). pathsBytes VERSION [] (pathsOf w places counts j)) (sym (add-one i)));
 }
   where
     run : List ℕ
-    run = pathsBytes (pathsOf w places counts i)
+    run = pathsBytes VERSION [] (pathsOf w places counts i)
 
-pub laying-ends : {w : ℕ} {places counts : List ℕ} {k at : ℕ} {out₀ out : List ℕ} {to i : ℕ} → Laying w places counts k at out₀ out to i → k ≤ i → out ≡ sets out₀ at (pathsBytes (pathsOf w places counts k))
-laying-ends {w} {places} {counts} {k} {at} {out₀} {out} {to} {i} v l = v .is ∙ ap (λ (j : ℕ). sets out₀ at (pathsBytes (pathsOf w places counts j))) (omega (arith, v .within))
+pub laying-ends : {w : ℕ} {places counts : List ℕ} {k at : ℕ} {out₀ out : List ℕ} {to i : ℕ} → Laying w places counts k at out₀ out to i → k ≤ i → out ≡ sets out₀ at (pathsBytes VERSION [] (pathsOf w places counts k))
+laying-ends {w} {places} {counts} {k} {at} {out₀} {out} {to} {i} v l = v .is ∙ ap (λ (j : ℕ). sets out₀ at (pathsBytes VERSION [] (pathsOf w places counts j))) (omega (arith, v .within))

@@ -10,7 +10,7 @@ use lib.ListN.{length, getD, length-append}
 use Rattle.paths.specs.Fan.{hops}
 use Rattle.paths.specs.Lists.{ahead-length}
 use Rattle.paths.specs.Read.{read}
-use Rattle.sheet.specs.Format.{pathsOf, pathBytes, pathsBytes, pathsFrom}
+use Rattle.sheet.specs.Format.{VERSION, pathsOf, pathBytes, pathsBytes, pathsFrom}
 use Rattle.sheet.specs.Lengths.{path-length}
 use Rattle.sheet_put.specs.Needs.{Headed}
 
@@ -30,25 +30,25 @@ pathsFrom-more w places counts i (suc n) =
     ap (λ (r : List (List ℕ)). read w places counts i ∷ r) (pathsFrom-more w places counts (suc i) n)
     ∙ ap (λ (j : ℕ). read w places counts i ∷ (pathsFrom w places counts (suc i) n ++ (read w places counts j ∷ []))) (omega arith)
 
-paths-more : (l : List (List ℕ)) (p : List ℕ) → pathsBytes (l ++ (p ∷ [])) ≡ pathsBytes l ++ pathBytes p
+paths-more : (l : List (List ℕ)) (p : List ℕ) → pathsBytes VERSION [] (l ++ (p ∷ [])) ≡ pathsBytes VERSION [] l ++ pathBytes VERSION 0 p
 unfolding pathsBytes
-paths-more [] p = append-nil (pathBytes p)
-paths-more (q ∷ l) p = ap (λ (r : List ℕ). pathBytes q ++ r) (paths-more l p) ∙ sym (append-assoc (pathBytes q) (pathsBytes l) (pathBytes p))
+paths-more [] p = append-nil (pathBytes VERSION 0 p)
+paths-more (q ∷ l) p = ap (λ (r : List ℕ). pathBytes VERSION 0 q ++ r) (paths-more l p) ∙ sym (append-assoc (pathBytes VERSION 0 q) (pathsBytes VERSION [] l) (pathBytes VERSION 0 p))
 
 -- the bytes of one path more
-pub pathsOf-more : (w : ℕ) (places counts : List ℕ) (k : ℕ) → pathsBytes (pathsOf w places counts (suc k)) ≡ pathsBytes (pathsOf w places counts k) ++ pathBytes (read w places counts k)
+pub pathsOf-more : (w : ℕ) (places counts : List ℕ) (k : ℕ) → pathsBytes VERSION [] (pathsOf w places counts (suc k)) ≡ pathsBytes VERSION [] (pathsOf w places counts k) ++ pathBytes VERSION 0 (read w places counts k)
 pathsOf-more w places counts k =
-    ap pathsBytes (pathsFrom-more w places counts 0 k)
+    ap (pathsBytes VERSION []) (pathsFrom-more w places counts 0 k)
     ∙ paths-more (pathsOf w places counts k) (read w places counts (0 + k))
-    ∙ ap (λ (j : ℕ). pathsBytes (pathsOf w places counts k) ++ pathBytes (read w places counts j)) (omega arith)
+    ∙ ap (λ (j : ℕ). pathsBytes VERSION [] (pathsOf w places counts k) ++ pathBytes VERSION 0 (read w places counts j)) (omega arith)
 
-pub paths-total : (w : ℕ) (places counts : List ℕ) (k : ℕ) → length (pathsBytes (pathsOf w places counts k)) ≡ total counts k
+pub paths-total : (w : ℕ) (places counts : List ℕ) (k : ℕ) → length (pathsBytes VERSION [] (pathsOf w places counts k)) ≡ total counts k
 unfolding pathsBytes pathsFrom total
 paths-total w places counts zero = refl
 paths-total w places counts (suc k) =
     ap length (pathsOf-more w places counts k)
-    ∙ length-append (pathsBytes (pathsOf w places counts k)) (pathBytes (read w places counts k))
-    ∙ omega (arith, paths-total w places counts k, path-length (read w places counts k), ahead-length places (k * w + 1) (hops counts k))
+    ∙ length-append (pathsBytes VERSION [] (pathsOf w places counts k)) (pathBytes VERSION 0 (read w places counts k))
+    ∙ omega (arith, paths-total w places counts k, path-length VERSION 0 (read w places counts k), ahead-length places (k * w + 1) (hops counts k))
 
 -- 206 hops take 1,650 bytes
 pub total-most : {k : ℕ} {counts : List ℕ} → Headed k counts → (i : ℕ) → i ≤ k → total counts i ≤ i * 1650

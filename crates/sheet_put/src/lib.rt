@@ -4,7 +4,8 @@ ghost use Prim.Native.Nat.{_+_, _*_, _≤_};
 ghost use lib.ListN.{length};
 ghost use lib.Seq.{sets};
 ghost use Rattle.paths.specs.Lists.{ahead};
-ghost use Rattle.sheet.specs.Format.{relaysBytes, pathBytes, pathsBytes, pathsOf};
+ghost use mathlib.Core.List.{[]};
+ghost use Rattle.sheet.specs.Format.{VERSION, relaysBytes, pathBytes, pathsBytes, pathsOf};
 ghost use Rattle.sheet_put.specs.Needs.{Headed, Paths};
 ghost use Rattle.sheet_put.specs.Total.{total};
 
@@ -23,7 +24,7 @@ fn put_relays(places: &[u64], from: usize, n: usize, at: usize, out: &mut [u8])
 // Writes the path of h hops whose relays after the source stand in the places from `from` on.
 fn put_path(places: &[u64], from: usize, h: usize, at: usize, out: &mut [u8])
     requires { ⌜ (from + h ≤ length (now places)) × (at + 2 + h * 8 ≤ length (now out)) ⌝ }
-    ensures { λ _. ⌜ now (out .exit) ≡ sets (now (out .entry)) at (pathBytes (ahead (now (places .entry)) from h)) ⌝ }
+    ensures { λ _. ⌜ now (out .exit) ≡ sets (now (out .entry)) at (pathBytes VERSION 0 (ahead (now (places .entry)) from h)) ⌝ }
 {
     octets::put(h as u64, 2, at, out);
     put_relays(places, from, h, at + 2, out);
@@ -32,7 +33,7 @@ fn put_path(places: &[u64], from: usize, h: usize, at: usize, out: &mut [u8])
 // Writes k paths, of w places each, from the place `at` on.
 pub fn put_paths(w: usize, places: &[u64], counts: &[u64], k: usize, at: usize, out: &mut [u8])
     requires { ⌜ Paths w k (length (now places)) (now counts) × (at + total (now counts) k ≤ length (now out)) ⌝ }
-    ensures { λ _. ⌜ now (out .exit) ≡ sets (now (out .entry)) at (pathsBytes (pathsOf w (now (places .entry)) (now (counts .entry)) k)) ⌝ }
+    ensures { λ _. ⌜ now (out .exit) ≡ sets (now (out .entry)) at (pathsBytes VERSION [] (pathsOf w (now (places .entry)) (now (counts .entry)) k)) ⌝ }
 {
     let mut to = at;
     let mut i: usize = 0;

@@ -16,7 +16,7 @@ use Rattle.mesh.specs.Limits.{known-width}
 use Rattle.mesh.specs.Says.{short}
 use Rattle.mesh.specs.Requests.{neither-wanting, room-enough}
 use Rattle.mesh.specs.declared.Mesh as code
-use Rattle.sheet.specs.Format.{HEAD, kindAt, sizeAt, countAt, sourceAt}
+use Rattle.sheet.specs.Format.{VERSION, HEAD, kindAt, sizeAt, countAt, sourceAt}
 use Rattle.sheet.specs.Says.{flawed, before, settled, reads, readingTold}
 use Rattle.sheet.specs.Flaws.{before-none}
 use Rattle.sheet.specs.Pieces.{at-front}
@@ -80,7 +80,7 @@ module _ {l : List ℕ} {kind size s k : ℕ} (b : Bodied l kind size s k) (plac
             let w = neither-wanting (short (meshAt l) (countAt l) (length places) (length counts)) (ltb (length targets) (countAt l)) refl (sym want-is ∙ t) in
             let room = room-enough (meshAt l) (countAt l) (length places) (length counts) (w .0) in
             record {
-              sound = before-none (looked (meshAt l .longest) l HEAD 0 (countAt l)) _ nothing .0;
+              sound = before-none (looked VERSION (meshAt l .longest) l HEAD 0 (countAt l)) _ nothing .0;
               small = omega (arith, ap (λ (x : Mesh). x .longest) (mesh-is b), known-width kind size (body-known b));
               room = room .0;
               counted = room .1;
@@ -103,9 +103,9 @@ module _ {l : List ℕ} {kind size s k : ℕ} (b : Bodied l kind size s k) (plac
                 ∙ ap (sheetTold l) o;
             placed = q .placed ∙ at-front (sheetPlaces l) places (omega (arith, q .wide, all-taken .room))
                 ∙ ap (λ (y : Option Flaw). settled y (sheetPlaces l ++ drop (length (sheetPlaces l)) places) places) o;
-            counted = q .counted ∙ at-front (sheetCounts l) counts (omega (arith, counts-length (sheetPaths l), paths-length l HEAD (countAt l), all-taken .counted))
+            counted = q .counted ∙ at-front (sheetCounts l) counts (omega (arith, counts-length (sheetPaths l), paths-length VERSION l HEAD (countAt l), all-taken .counted))
                 ∙ ap (λ (y : Option Flaw). settled y (sheetCounts l ++ drop (length (sheetCounts l)) counts) counts) o;
-            aimed = q .aimed ∙ at-front (sheetTargets l) targets (omega (arith, targets-length (sourceAt l) (sheetPaths l), paths-length l HEAD (countAt l), all-taken .aimed))
+            aimed = q .aimed ∙ at-front (sheetTargets l) targets (omega (arith, targets-length (sourceAt l) (sheetPaths l), paths-length VERSION l HEAD (countAt l), all-taken .aimed))
                 ∙ ap (λ (y : Option Flaw). settled y (sheetTargets l ++ drop (length (sheetTargets l)) targets) targets) o;
           }
             where

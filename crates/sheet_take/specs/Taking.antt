@@ -12,7 +12,7 @@ use Rattle.scan.specs.Runs.{sets-append}
 use Rattle.octets.specs.Big.{number}
 use Rattle.paths.specs.Fan.{filler}
 use Rattle.paths.specs.Places.{row-below}
-use Rattle.sheet.specs.Format.{HEAD, hopsAt, after, relaysAt, pathsAt, row, placesOf, countsOf, lastOf, targetsOf}
+use Rattle.sheet.specs.Format.{VERSION, HEAD, hopsAt, after, relaysAt, pathsAt, row, placesOf, countsOf, lastOf, targetsOf}
 use Rattle.sheet.specs.Lengths.{relays-count, paths-length, row-length, counts-length, targets-length}
 use Rattle.sheet_take.specs.Looking.{Fine, looked-first}
 use Rattle.sheet_take.specs.Needs.{Taken}
@@ -57,27 +57,27 @@ last-relay l s at (suc h) e = last-is l s (at + 2) h ∙ ap (λ (p : ℕ). numbe
 -- where path i begins
 unfoldable pub offset : (l : List ℕ) (at i : ℕ) → ℕ
 offset l at zero = at
-offset l at (suc i) = offset l (after l at) i
+offset l at (suc i) = offset l (after VERSION l at) i
 
-offset-more : (l : List ℕ) (at i : ℕ) → offset l at (suc i) ≡ after l (offset l at i)
+offset-more : (l : List ℕ) (at i : ℕ) → offset l at (suc i) ≡ after VERSION l (offset l at i)
 unfolding offset
 offset-more l at zero = refl
-offset-more l at (suc i) = offset-more l (after l at) i
+offset-more l at (suc i) = offset-more l (after VERSION l at) i
 
 -- the path that begins at the place `at`
 abbrev pathAt : List ℕ → ℕ → List ℕ
 pathAt l at = relaysAt l (at + 2) (hopsAt l at)
 
-paths-more : (l : List ℕ) (at i : ℕ) → pathsAt l at (suc i) ≡ pathsAt l at i ++ (pathAt l (offset l at i) ∷ [])
+paths-more : (l : List ℕ) (at i : ℕ) → pathsAt VERSION l at (suc i) ≡ pathsAt VERSION l at i ++ (pathAt l (offset l at i) ∷ [])
 unfolding pathsAt offset
 paths-more l at zero = refl
-paths-more l at (suc i) = ap (λ (r : List (List ℕ)). pathAt l at ∷ r) (paths-more l (after l at) i)
+paths-more l at (suc i) = ap (λ (r : List (List ℕ)). pathAt l at ∷ r) (paths-more l (after VERSION l at) i)
 
 -- the first i paths are taken
 pub record Taking (l : List ℕ) (s longest k : ℕ) (places₀ counts₀ targets₀ places counts targets : List ℕ) (at i : ℕ) : Type 0 where
   pub asked : Taken l longest k (length places₀) (length counts₀) (length targets₀)
   pub within : i ≤ k
-  pub sound : looked longest l at i (k - i) ≡ none
+  pub sound : looked VERSION longest l at i (k - i) ≡ none
   pub at-is : at ≡ offset l HEAD i
   pub long : length places ≡ length places₀
   pub long-counts : length counts ≡ length counts₀
@@ -90,7 +90,7 @@ unfolding offset placesOf countsOf targetsOf pathsAt
 taking-starts {l} {longest} {k} s a = record {
   asked = a;
   within = omega arith;
-  sound = (let all : k - 0 ≡ k = omega arith in ap (looked longest l HEAD 0) all ∙ a .sound);
+  sound = (let all : k - 0 ≡ k = omega arith in ap (looked VERSION longest l HEAD 0) all ∙ a .sound);
   at-is = refl;
   long = refl;
   long-counts = refl;
@@ -100,11 +100,11 @@ taking-starts {l} {longest} {k} s a = record {
 
 module _ {l : List ℕ} {s longest k : ℕ} {places₀ counts₀ targets₀ places counts targets : List ℕ} {at i : ℕ}
     (v : Taking l s longest k places₀ counts₀ targets₀ places counts targets at i) (h : i < k) where
-  both : Fine longest l at × (looked longest l (after l at) (suc i) (k - (i + 1)) ≡ none)
-  both = let one : k - i ≡ suc (k - (i + 1)) = omega arith in looked-first longest l at i (k - (i + 1)) (ap (looked longest l at i) (sym one) ∙ v .sound)
+  both : Fine VERSION longest l at × (looked VERSION longest l (after VERSION l at) (suc i) (k - (i + 1)) ≡ none)
+  both = let one : k - i ≡ suc (k - (i + 1)) = omega arith in looked-first VERSION longest l at i (k - (i + 1)) (ap (looked VERSION longest l at i) (sym one) ∙ v .sound)
 
   -- the next path has its bytes and its places
-  pub next-fine : Fine longest l at
+  pub next-fine : Fine VERSION longest l at
   next-fine = both .0
 
   pub next-room : (i * (longest + 1) + longest < length places) × (i < length counts) × (i < length targets) × (longest ≤ 206)
@@ -116,13 +116,13 @@ module _ {l : List ℕ} {s longest k : ℕ} {places₀ counts₀ targets₀ plac
   )
 
   abbrev ps : List (List ℕ)
-  ps = pathsAt l HEAD i
+  ps = pathsAt VERSION l HEAD i
 
   abbrev next : List ℕ
   next = pathAt l at
 
-  more : pathsAt l HEAD (i + 1) ≡ ps ++ (next ∷ [])
-  more = ap (pathsAt l HEAD) (add-one i) ∙ paths-more l HEAD i ∙ ap (λ (p : ℕ). ps ++ (pathAt l p ∷ [])) (sym (v .at-is))
+  more : pathsAt VERSION l HEAD (i + 1) ≡ ps ++ (next ∷ [])
+  more = ap (pathsAt VERSION l HEAD) (add-one i) ∙ paths-more l HEAD i ∙ ap (λ (p : ℕ). ps ++ (pathAt l p ∷ [])) (sym (v .at-is))
 
   -- a piece after what was put at the front
   piece : (a b l₀ : List ℕ) {n : ℕ} → length a ≡ n → sets (sets l₀ 0 a) n b ≡ sets l₀ 0 (a ++ b)
@@ -133,8 +133,8 @@ module _ {l : List ℕ} {s longest k : ℕ} {places₀ counts₀ targets₀ plac
   taking-more {hops} {x} {at₁} {places₁} e p t g = record {
     asked = v .asked;
     within = omega arith;
-    sound = ap (λ (y : ℕ). looked longest l y (i + 1) (k - (i + 1))) next-at ∙ ap (λ (y : ℕ). looked longest l (after l at) y (k - (i + 1))) (add-one i) ∙ both .1;
-    at-is = next-at ∙ ap (after l) (v .at-is) ∙ sym (offset-more l HEAD i) ∙ ap (offset l HEAD) (sym (add-one i));
+    sound = ap (λ (y : ℕ). looked VERSION longest l y (i + 1) (k - (i + 1))) next-at ∙ ap (λ (y : ℕ). looked VERSION longest l (after VERSION l at) y (k - (i + 1))) (add-one i) ∙ both .1;
+    at-is = next-at ∙ ap (after VERSION l) (v .at-is) ∙ sym (offset-more l HEAD i) ∙ ap (offset l HEAD) (sym (add-one i));
     long = ap length p ∙ length-sets places (i * (longest + 1)) (row s longest (relaysAt l (at + 2) hops)) ∙ v .long;
     long-counts = length-set counts i hops ∙ v .long-counts;
     long-targets = length-set targets i x ∙ v .long-targets;
@@ -149,16 +149,16 @@ module _ {l : List ℕ} {s longest k : ℕ} {places₀ counts₀ targets₀ plac
           ∙ ap (sets places₀ 0) (sym (ap (placesOf s longest) more ∙ places-more s longest ps next));
       counted =
           ap₂ (λ (y : List ℕ) (z : ℕ). set y i z) (v .taken .counted) (e ∙ sym (relays-count l (at + 2) (hopsAt l at)))
-          ∙ piece (countsOf ps) (length next ∷ []) counts₀ (counts-length ps ∙ paths-length l HEAD i)
+          ∙ piece (countsOf ps) (length next ∷ []) counts₀ (counts-length ps ∙ paths-length VERSION l HEAD i)
           ∙ ap (sets counts₀ 0) (sym (ap countsOf more ∙ counts-more ps next));
       aimed =
           ap₂ (λ (y : List ℕ) (z : ℕ). set y i z) (v .taken .aimed) last
-          ∙ piece (targetsOf s ps) (lastOf s next ∷ []) targets₀ (targets-length s ps ∙ paths-length l HEAD i)
+          ∙ piece (targetsOf s ps) (lastOf s next ∷ []) targets₀ (targets-length s ps ∙ paths-length VERSION l HEAD i)
           ∙ ap (sets targets₀ 0) (sym (ap (targetsOf s) more ∙ targets-more s ps next));
     };
   }
     where
-      next-at : at₁ ≡ after l at
+      next-at : at₁ ≡ after VERSION l at
       next-at = g ∙ ap (λ (y : ℕ). at + 2 + y * 8) e
 
       short : length next ≤ longest

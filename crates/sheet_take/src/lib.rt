@@ -3,7 +3,7 @@ ghost use mathlib.Core.Path.{_≡_};
 ghost use Prim.Native.Nat.{_+_, _*_, _≤_, _<_};
 ghost use lib.ListN.{length};
 ghost use lib.Seq.{sets};
-ghost use Rattle.sheet.specs.Format.{HEAD, after, relaysAt, row};
+ghost use Rattle.sheet.specs.Format.{VERSION, HEAD, after, relaysAt, row};
 ghost use Rattle.sheet_take.specs.Says.{looked, wrongAt, tellStride, strideTold, lookedOf, TakenPaths};
 ghost use Rattle.sheet_take.specs.Needs.{Taken};
 use paths::FILLER;
@@ -24,7 +24,7 @@ pub enum Looked {
 // Looks at path i, which begins at the place `at`.
 fn look_at(longest: u64, bytes: &[u8], at: usize, i: usize) -> Stride
     requires { ⌜ (at ≤ length (now bytes)) × (longest ≤ 206) ⌝ }
-    ensures { λ r. ⌜ strideTold r ≡ tellStride (wrongAt longest (now (bytes .entry)) at i) (after (now (bytes .entry)) at) ⌝ }
+    ensures { λ r. ⌜ strideTold r ≡ tellStride (wrongAt VERSION longest (now (bytes .entry)) at i) (after VERSION (now (bytes .entry)) at) ⌝ }
 {
     let left = bytes.len() - at;
     if left < 2 {
@@ -47,7 +47,7 @@ fn look_at(longest: u64, bytes: &[u8], at: usize, i: usize) -> Stride
 // Looks through k paths.
 pub fn look(longest: u64, bytes: &[u8], k: usize) -> Looked
     requires { ⌜ (HEAD ≤ length (now bytes)) × (longest ≤ 206) ⌝ }
-    ensures { λ r. ⌜ lookedOf r ≡ looked longest (now (bytes .entry)) HEAD 0 k ⌝ }
+    ensures { λ r. ⌜ lookedOf r ≡ looked VERSION longest (now (bytes .entry)) HEAD 0 k ⌝ }
 {
     let mut at: usize = 16;
     let mut i: usize = 0;

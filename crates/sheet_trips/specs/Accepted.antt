@@ -39,7 +39,7 @@ pub record Accepted (l : List ℕ) (places counts targets : ℕ) : Type 0 where
   pub room-counts : countAt l ≤ counts
   pub room-targets : countAt l ≤ targets
   -- 34, 30, 36; 2, 5, 6, 7, 22, 24
-  pub looks : looked (meshAt l .longest) l HEAD 0 (countAt l) ≡ none
+  pub looks : looked VERSION (meshAt l .longest) l HEAD 0 (countAt l) ≡ none
   pub is-fan : numberOf (judgeTold (kindOf (kindAt l)) (sizeAt l) (sourceAt l) (sheetTargets l) (sheetPlaces l) (sheetCounts l) false) ≡ 0
 
 neither : {a b : Bool} → a ≡ false → b ≡ false → pick a true b ≡ false
@@ -68,7 +68,7 @@ module _ (l : List ℕ) (places counts targets : ℕ) where
       let paths-not = flawed-none (badCount (m .links) k) flaw.Paths _ (mesh-not .1) in
       let lone-not = flawed-none (lone (kindAt l) k) flaw.Lone none (paths-not .1) in
       let room-not = flawed-none (lacking l places counts targets) flaw.NoRoom _ (h .1) in
-      let look-not = before-none (looked (m .longest) l HEAD 0 k) _ (room-not .1) in
+      let look-not = before-none (looked VERSION (m .longest) l HEAD 0 k) _ (room-not .1) in
       let c = neither-wanting (ltb (length l) HEAD) (not (eqb (lengthAt l) (length l - 4))) refl (cut-not .0) in
       let p = neither-wanting (eqb k 0) (ltb (m .links) k) refl (paths-not .0) in
       let r = neither-wanting (short m k places counts) (ltb targets k) refl (room-not .0) in

@@ -2,17 +2,18 @@
 -- accepted sheet whole (`sheet-again`); so sheets that hold the same fan are the same (`same-sheet`). Assumes nothing.
 use Prim.Native.Nat.{ℕ, zero, suc, _+_, _*_, _≤_}
 use mathlib.Core.Path.{_≡_, refl, sym, ap, ap₂, _∙_}
-use mathlib.Core.Bool.{not}
-use mathlib.Core.List.{List, _∷_, _++_, append-assoc}
+use mathlib.Core.Bool.{Bool, true, false, not}
+use mathlib.Core.List.{List, [], _∷_, _++_, append-assoc}
 use mathlib.Core.Option.{none}
 use native.Mathlib.Omega.{arith}
 use lib.Dec.{eqb}
 use lib.ListN.{length, take, drop, length-drop, take-append-drop}
 use lib.Seq.{take-add, drop-drop, drop-cons, drop-length}
 use borrow.Author.Tests.{eqb-true, not-false}
-use Rattle.octets.specs.Big.{Bytes, big, big-number}
+use Rattle.scan.specs.Scan.{pick}
+use Rattle.octets.specs.Big.{Bytes, big, number, big-number}
 use Rattle.sheet.specs.Flaws.{flawed-none}
-use Rattle.sheet.specs.Format.{HEAD, fields, relaysBytes, pathBytes, pathsBytes, bodyOf, sheetOf, versionAt, kindAt, sizeAt, countAt, sourceAt, hopsAt, after, relaysAt, pathsAt}
+use Rattle.sheet.specs.Format.{VERSION, HEAD, fields, zoned, head, zoneBytes, relaysBytes, pathBytes, pathsBytes, bodyOf, sheetOf, versionAt, kindAt, sizeAt, countAt, sourceAt, hopsAt, after, zoneAt, relaysAt, pathsAt, zonesAt}
 use Rattle.sheet.specs.Lengths.{relays-count, paths-length}
 use Rattle.sheet.specs.declared.Flaw.the-variants as flaw
 use Rattle.sheet_take.specs.Looking.{looked-first}
@@ -21,9 +22,23 @@ use Rattle.sheet_check.specs.Says.{meshAt, sheetPaths}
 use Rattle.sheet_trips.specs.Accepted.{Accepted}
 
 -- after the last path the bytes end
-pub looked-end : (longest : ℕ) (l : List ℕ) (at i : ℕ) → looked longest l at i 0 ≡ none → at ≡ length l
+pub looked-end : (v longest : ℕ) (l : List ℕ) (at i : ℕ) → looked v longest l at i 0 ≡ none → at ≡ length l
 unfolding looked
-looked-end longest l at i e = eqb-true at (length l) (not-false _ (flawed-none (not (eqb at (length l))) flaw.LeftOver none e .0))
+looked-end v longest l at i e = eqb-true at (length l) (not-false _ (flawed-none (not (eqb at (length l))) flaw.LeftOver none e .0))
+
+-- a path's head, in two parts
+head-is : (v : ℕ) → head v ≡ 2 + pick (zoned v) 4 0
+head-is v = go (zoned v)
+  where
+    go : (z : Bool) → pick z 6 2 ≡ 2 + pick z 4 0
+    go true = refl
+    go false = refl
+
+-- version 1 has no zones, whatever stands in the list
+unzoned : (zones others : List ℕ) (ps : List (List ℕ)) → pathsBytes VERSION zones ps ≡ pathsBytes VERSION others ps
+unfolding pathsBytes pathBytes
+unzoned zones others [] = refl
+unzoned zones others (p ∷ ps) = ap (λ (r : List ℕ). pathBytes VERSION 0 p ++ r) (unzoned (drop 1 zones) (drop 1 others) ps)
 
 module _ (l : List ℕ) (b : Bytes l) where
   -- n bytes and what follows them, after a place
@@ -40,38 +55,47 @@ module _ (l : List ℕ) (b : Bytes l) where
       let more : 8 + n * 8 ≡ suc n * 8 = omega arith in
       ap₂ _++_ (big-number l b at 8 (omega arith)) (relays-again (at + 8) n (omega arith)) ∙ take-more at 8 (n * 8) ∙ ap (λ (i : ℕ). take i (drop at l)) more
 
-  path-again : (at : ℕ) → after l at ≤ length l → pathBytes (relaysAt l (at + 2) (hopsAt l at)) ≡ take (2 + hopsAt l at * 8) (drop at l)
-  unfolding pathBytes
-  path-again at h =
-      let n = hopsAt l at in
-      ap (λ (c : ℕ). big 2 c ++ relaysBytes (relaysAt l (at + 2) n)) (relays-count l (at + 2) n)
-      ∙ ap₂ _++_ (big-number l b at 2 (omega arith)) (relays-again (at + 2) n (omega arith)) ∙ take-more at 2 (n * 8)
+  zone-again : (at : ℕ) (z : Bool) → at + pick z 4 0 ≤ length l → pick z (big 4 (pick z (number l at 4) 0)) [] ≡ take (pick z 4 0) (drop at l)
+  zone-again at true h = big-number l b at 4 h
+  zone-again at false h = refl
 
-  -- the paths are all that follows
-  pub paths-again : (longest at i k : ℕ) → looked longest l at i k ≡ none → pathsBytes (pathsAt l at k) ≡ drop at l
-  unfolding pathsBytes pathsAt
-  paths-again longest at i zero e = sym (drop-length l) ∙ ap (λ (j : ℕ). drop j l) (sym (looked-end longest l at i e))
-  paths-again longest at i (suc k) e =
-      let r = looked-first longest l at i k e in
-      let past : after l at ≡ at + (2 + hopsAt l at * 8) = omega arith in
-      ap₂ _++_ (path-again at (r .0 .within)) (paths-again longest (after l at) (suc i) k (r .1) ∙ ap (λ (j : ℕ). drop j l) past)
-      ∙ take-rest at (2 + hopsAt l at * 8)
+  path-again : (v at : ℕ) → after v l at ≤ length l → pathBytes v (zoneAt v l at) (relaysAt l (at + head v) (hopsAt l at)) ≡ take (head v + hopsAt l at * 8) (drop at l)
+  unfolding pathBytes
+  path-again v at h =
+      let n = hopsAt l at in
+      let z : ℕ = pick (zoned v) 4 0 in
+      let rest : at + head v ≡ at + 2 + z = omega (arith, head-is v) in
+      let all : 2 + (z + n * 8) ≡ head v + n * 8 = omega (arith, head-is v) in
+      ap (λ (c : ℕ). big 2 c ++ (zoneBytes v (zoneAt v l at) ++ relaysBytes (relaysAt l (at + head v) n))) (relays-count l (at + head v) n)
+      ∙ ap₂ _++_ (big-number l b at 2 (omega (arith, rest)))
+      (ap₂ _++_ (zone-again (at + 2) (zoned v) (omega (arith, rest))) (relays-again (at + head v) n h ∙ ap (λ (i : ℕ). take (n * 8) (drop i l)) rest) ∙ take-more (at + 2) z (n * 8))
+      ∙ take-more at 2 (z + n * 8) ∙ ap (λ (i : ℕ). take i (drop at l)) all
+
+  -- the paths, with their zones, are all that follows
+  pub paths-again : (v longest at i k : ℕ) → looked v longest l at i k ≡ none → pathsBytes v (zonesAt v l at k) (pathsAt v l at k) ≡ drop at l
+  unfolding pathsBytes pathsAt zonesAt
+  paths-again v longest at i zero e = sym (drop-length l) ∙ ap (λ (j : ℕ). drop j l) (sym (looked-end v longest l at i e))
+  paths-again v longest at i (suc k) e =
+      let r = looked-first v longest l at i k e in
+      let past : after v l at ≡ at + (head v + hopsAt l at * 8) = omega arith in
+      ap₂ _++_ (path-again v at (r .0 .within)) (paths-again v longest (after v l at) (suc i) k (r .1) ∙ ap (λ (j : ℕ). drop j l) past)
+      ∙ take-rest at (head v + hopsAt l at * 8)
 
   -- ---- a sheet
 
   module _ (places counts targets : ℕ) (a : Accepted l places counts targets) where
-    body-again : bodyOf (kindAt l) (sizeAt l) (sourceAt l) (sheetPaths l) ≡ drop 4 l
+    body-again : bodyOf VERSION (kindAt l) (sizeAt l) (sourceAt l) [] (sheetPaths l) ≡ drop 4 l
     unfolding bodyOf
     body-again =
         let long = a .long in
-        append-assoc (fields (kindAt l) (sizeAt l) (length (sheetPaths l))) (big 8 (sourceAt l)) (pathsBytes (sheetPaths l))
-        ∙ ap (λ (r : List ℕ). fields (kindAt l) (sizeAt l) (length (sheetPaths l)) ++ r)
-        (ap₂ _++_ (big-number l b 8 8 (omega arith)) (paths-again (meshAt l .longest) HEAD 0 (countAt l) (a .looks)) ∙ take-rest 8 8)
-        ∙ ap₂ (λ (v k : ℕ). v ∷ kindAt l ∷ sizeAt l ∷ k ∷ drop 8 l) (sym (a .version)) (paths-length l HEAD (countAt l))
+        append-assoc (fields VERSION (kindAt l) (sizeAt l) (length (sheetPaths l))) (big 8 (sourceAt l)) (pathsBytes VERSION [] (sheetPaths l))
+        ∙ ap (λ (r : List ℕ). fields VERSION (kindAt l) (sizeAt l) (length (sheetPaths l)) ++ r)
+        (ap₂ _++_ (big-number l b 8 8 (omega arith)) (unzoned [] (zonesAt VERSION l HEAD (countAt l)) (sheetPaths l) ∙ paths-again VERSION (meshAt l .longest) HEAD 0 (countAt l) (a .looks)) ∙ take-rest 8 8)
+        ∙ ap₂ (λ (v k : ℕ). v ∷ kindAt l ∷ sizeAt l ∷ k ∷ drop 8 l) (sym (a .version)) (paths-length VERSION l HEAD (countAt l))
         ∙ sym (drop-cons l 4 0 (omega arith) ∙ ap (λ (r : List ℕ). versionAt l ∷ r) (drop-cons l 5 0 (omega arith)
         ∙ ap (λ (r : List ℕ). kindAt l ∷ r) (drop-cons l 6 0 (omega arith) ∙ ap (λ (r : List ℕ). sizeAt l ∷ r) (drop-cons l 7 0 (omega arith)))))
 
-    pub sheet-again : sheetOf (kindAt l) (sizeAt l) (sourceAt l) (sheetPaths l) ≡ l
+    pub sheet-again : sheetOf VERSION (kindAt l) (sizeAt l) (sourceAt l) [] (sheetPaths l) ≡ l
     unfolding sheetOf
     sheet-again =
         let long = a .long in
@@ -83,5 +107,5 @@ module _ (l : List ℕ) (b : Bytes l) where
 pub same-sheet : (l r : List ℕ) → Bytes l → Bytes r → (p c t q d u : ℕ) → Accepted l p c t → Accepted r q d u → kindAt l ≡ kindAt r → sizeAt l ≡ sizeAt r
     → sourceAt l ≡ sourceAt r → sheetPaths l ≡ sheetPaths r → l ≡ r
 same-sheet l r b e p c t q d u a f kind size source paths =
-    sym (sheet-again l b p c t a) ∙ ap₂ (λ (x y : ℕ). sheetOf x y (sourceAt l) (sheetPaths l)) kind size
-    ∙ ap₂ (sheetOf (kindAt r) (sizeAt r)) source paths ∙ sheet-again r e q d u f
+    sym (sheet-again l b p c t a) ∙ ap₂ (λ (x y : ℕ). sheetOf VERSION x y (sourceAt l) [] (sheetPaths l)) kind size
+    ∙ ap₂ (λ (x : ℕ) (ps : List (List ℕ)). sheetOf VERSION (kindAt r) (sizeAt r) x [] ps) source paths ∙ sheet-again r e q d u f

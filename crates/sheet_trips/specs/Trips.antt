@@ -14,7 +14,7 @@ use Rattle.mesh.specs.Kinds.{kindOf, meshOf, planned}
 use Rattle.mesh.specs.declared.Mesh as code
 use Rattle.judge.specs.Says.{numberOf, judgeTold}
 use Rattle.sheet.specs.Flaws.{flaw-some}
-use Rattle.sheet.specs.Format.{HEAD, kindAt, sizeAt, countAt, sourceAt}
+use Rattle.sheet.specs.Format.{VERSION, HEAD, kindAt, sizeAt, countAt, sourceAt}
 use Rattle.sheet.specs.Judging.{judged}
 use Rattle.sheet.specs.Lengths.{paths-length, targets-length}
 use Rattle.sheet.specs.Says.{settled, lone, flawNumber, wrote, tellWritten, reads, tellRead}
@@ -141,7 +141,7 @@ module _ (l : List ℕ) (bytes : Bytes l) (places counts targets : List ℕ) whe
   read-writes mesh s k places₁ counts₁ targets₁ v out room r out₁ u =
       let fine = read-fine (readsAgainst l places counts targets) (mesh .kind) (mesh .size) s k (kindAt l) (sizeAt l) (sourceAt l) (countAt l) (v .told) in
       let kept : (now was : List ℕ) → settled (readsAgainst l places counts targets) now was ≡ now = λ now was. ap (λ (o : Option Flaw). settled o now was) (fine .0) in
-      let many : length (sheetTargets l) ≡ k = targets-length (sourceAt l) (sheetPaths l) ∙ paths-length l HEAD (countAt l) ∙ sym (fine .4) in
+      let many : length (sheetTargets l) ≡ k = targets-length (sourceAt l) (sheetPaths l) ∙ paths-length VERSION l HEAD (countAt l) ∙ sym (fine .4) in
       let aims : take k targets₁ ≡ sheetTargets l = ap (take k) (v .aimed ∙ kept _ targets) ∙ take-at (sheetTargets l) (drop (length (sheetTargets l)) targets) k many in
       sheet-written (fine .0) (drop (length (sheetPlaces l)) places) (drop (length (sheetCounts l)) counts) out room r out₁
       (wrote-same (fine .1) (fine .2) (fine .3) aims (v .placed ∙ kept _ places) (v .counted ∙ kept _ counts) u)

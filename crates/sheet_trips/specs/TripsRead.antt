@@ -14,7 +14,7 @@ use Rattle.mesh.specs.Kinds.{kindOf, meshOf, planned}
 use Rattle.mesh.specs.Limits.{planned-links, known-width, known-relays}
 use Rattle.mesh.specs.Requests.{Fine}
 use Rattle.judge.specs.Says.{numberOf, judgeTold}
-use Rattle.sheet.specs.Format.{HEAD, pathsBytes, sheetOf, kindAt, sizeAt, countAt, sourceAt, pathsAt, placesOf, countsOf, targetsOf, pathsOf}
+use Rattle.sheet.specs.Format.{VERSION, HEAD, pathsBytes, sheetOf, kindAt, sizeAt, countAt, sourceAt, pathsAt, placesOf, countsOf, targetsOf, pathsOf}
 use Rattle.sheet.specs.Judging.{Judged, judged, judged-told, judged-fine, judged-same}
 use Rattle.sheet.specs.Lengths.{pathsFrom-length, bytesOf}
 use Rattle.sheet.specs.Lent.{within-of, places-of, counts-of, targets-of}
@@ -76,12 +76,12 @@ module _ (kind size s : ℕ) (targets places counts : List ℕ) (p : planned kin
   how-many : length ps ≡ k
   how-many = pathsFrom-length w places counts 0 k
 
-  few-bytes : 12 + bytesOf ps < 256 ^ 4
+  few-bytes : 12 + bytesOf VERSION ps < 256 ^ 4
   few-bytes =
       let within = within-of m s places counts targets (is-judged .fan) in
       let few : length ps ≤ 32 = omega (arith, how-many, fine .sound .few, planned-links kind size p) in
       let path : 2 + 8 * m .longest ≤ 1650 = omega (arith, few-hops) in
-      omega (arith, bytes-most (m .longest) ps within, mul-le-mul few path)
+      omega (arith, bytes-most VERSION (m .longest) ps within, mul-le-mul few path)
 
   -- the places and counts that are read
   taken : Judged (kindOf kind) size s targets (take (k * w) places) (take k counts)
@@ -91,7 +91,7 @@ module _ (kind size s : ℕ) (targets places counts : List ℕ) (p : planned kin
       judged-same (kindOf kind) size s targets places counts (take (k * w) places) (take k counts) is-judged (omega (arith, room)) (omega (arith, counted))
       (λ j g. getD-take (k * w) places j 0 g) (λ j g. getD-take k counts j 0 g)
 
-  module _ (l : List ℕ) (h : Head kind size s (length ps) (pathsBytes ps) l) where
+  module _ (l : List ℕ) (h : Head VERSION kind size s (length ps) (pathsBytes VERSION [] ps) l) where
     same-mesh : meshAt l ≡ m
     same-mesh = ap₂ meshOf (h .kind-is) (h .size-is)
 
@@ -100,8 +100,8 @@ module _ (kind size s : ℕ) (targets places counts : List ℕ) (p : planned kin
 
     same-paths : sheetPaths l ≡ ps
     same-paths =
-        ap (pathsAt l HEAD) (h .count-is)
-        ∙ pathsAt-there (m .longest) (omega (arith, few-hops)) l ps [] HEAD fits (h .long) (h .after-it ∙ sym (append-nil (pathsBytes ps)))
+        ap (pathsAt VERSION l HEAD) (h .count-is)
+        ∙ pathsAt-there VERSION (m .longest) (omega (arith, few-hops)) l ps [] [] HEAD fits (h .long) (h .after-it ∙ sym (append-nil (pathsBytes VERSION [] ps)))
 
     same-targets : sheetTargets l ≡ targets
     same-targets = ap₂ targetsOf (h .source-is) same-paths ∙ targets-of m s places counts targets (is-judged .fan)
@@ -114,10 +114,10 @@ module _ (kind size s : ℕ) (targets places counts : List ℕ) (p : planned kin
     same-counts : sheetCounts l ≡ take k counts
     same-counts = ap countsOf same-paths ∙ counts-of m s places counts targets (is-judged .fan) (is-judged .counted)
 
-    looks : looked (meshAt l .longest) l HEAD 0 (countAt l) ≡ none
+    looks : looked VERSION (meshAt l .longest) l HEAD 0 (countAt l) ≡ none
     looks =
-        ap₂ (λ (n : Mesh) (c : ℕ). looked (n .longest) l HEAD 0 c) same-mesh (h .count-is)
-        ∙ looked-there (m .longest) (omega (arith, few-hops)) l ps HEAD 0 fits (h .long) (h .after-it)
+        ap₂ (λ (n : Mesh) (c : ℕ). looked VERSION (n .longest) l HEAD 0 c) same-mesh (h .count-is)
+        ∙ looked-there VERSION (m .longest) (omega (arith, few-hops)) l ps [] HEAD 0 fits (h .long) (h .after-it)
 
     -- the judge finds in what is read what it found before
     is-fan : numberOf (judgeTold (kindOf (kindAt l)) (sizeAt l) (sourceAt l) (sheetTargets l) (sheetPlaces l) (sheetCounts l) false) ≡ 0
@@ -156,5 +156,5 @@ module _ (kind size s : ℕ) (targets places counts : List ℕ) (p : planned kin
       no-flaw = λ q c t a b d. accepts l q c t (is-accepted q c t a b d);
     }
 
-  pub write-read : ReadsBack kind size s targets places counts (sheetOf kind size s ps)
-  write-read = reads-back (sheetOf kind size s ps) (head-there kind size s ps (omega (arith, fine .sound .source, narrow)) few-bytes)
+  pub write-read : ReadsBack kind size s targets places counts (sheetOf VERSION kind size s [] ps)
+  write-read = reads-back (sheetOf VERSION kind size s [] ps) (head-there VERSION kind size s [] ps (omega (arith, fine .sound .source, narrow)) few-bytes)

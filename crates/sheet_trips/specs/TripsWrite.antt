@@ -2,7 +2,7 @@
 use Prim.Native.Nat.{ℕ, _*_, _≤_}
 use mathlib.Core.Path.{_≡_, sym, ap, _∙_}
 use mathlib.Core.Bool.{false}
-use mathlib.Core.List.{List, _++_}
+use mathlib.Core.List.{List, [], _++_}
 use mathlib.Core.Option.{none}
 use native.Mathlib.Omega.{arith}
 use lib.ListN.{length, length-append, List·getD-append}
@@ -10,7 +10,7 @@ use Rattle.octets.specs.Big.{Bytes}
 use Rattle.paths.specs.Mesh.{width}
 use Rattle.mesh.specs.Kinds.{kindOf}
 use Rattle.judge.specs.Says.{numberOf, judgeTold}
-use Rattle.sheet.specs.Format.{HEAD, sheetOf, kindAt, sizeAt, countAt, sourceAt, pathsOf}
+use Rattle.sheet.specs.Format.{VERSION, HEAD, sheetOf, kindAt, sizeAt, countAt, sourceAt, pathsOf}
 use Rattle.sheet.specs.Judging.{judged, judged-told, judged-same}
 use Rattle.sheet.specs.Lengths.{paths-length, counts-length, targets-length}
 use Rattle.sheet.specs.Lent.{Within, places-length, paths-lent}
@@ -41,13 +41,13 @@ module _ (l : List ℕ) (b : Bytes l) (p c t : ℕ) (e : readAgainst l p c t ≡
   w = width (meshAt l)
 
   within : Within (meshAt l .longest) (sheetPaths l)
-  within = looked-within (meshAt l .longest) l HEAD 0 (countAt l) (is-accepted .looks)
+  within = looked-within VERSION (meshAt l .longest) l HEAD 0 (countAt l) (is-accepted .looks)
 
   how-many : length (sheetPaths l) ≡ k
   how-many = sym (targets-length (sourceAt l) (sheetPaths l))
 
   several : lone (kindAt l) k ≡ false
-  several = ap (lone (kindAt l)) (sym how-many ∙ paths-length l HEAD (countAt l)) ∙ is-accepted .not-lone
+  several = ap (lone (kindAt l)) (sym how-many ∙ paths-length VERSION l HEAD (countAt l)) ∙ is-accepted .not-lone
 
   places-long : length (sheetPlaces l) ≡ k * w
   places-long = places-length (sourceAt l) (meshAt l .longest) (sheetPaths l) within ∙ ap (λ (n : ℕ). n * w) how-many
@@ -65,8 +65,8 @@ module _ (l : List ℕ) (b : Bytes l) (p c t : ℕ) (e : readAgainst l p c t ≡
     same-paths : pathsOf w places counts k ≡ sheetPaths l
     same-paths = ap (pathsOf w places counts) (sym how-many) ∙ paths-lent (sourceAt l) (meshAt l .longest) (sheetPaths l) within more others
 
-    same-bytes : sheetOf (kindAt l) (sizeAt l) (sourceAt l) (pathsOf w places counts k) ≡ l
-    same-bytes = ap (sheetOf (kindAt l) (sizeAt l) (sourceAt l)) same-paths ∙ sheet-again l b p c t is-accepted
+    same-bytes : sheetOf VERSION (kindAt l) (sizeAt l) (sourceAt l) [] (pathsOf w places counts k) ≡ l
+    same-bytes = ap (sheetOf VERSION (kindAt l) (sizeAt l) (sourceAt l) []) same-paths ∙ sheet-again l b p c t is-accepted
 
     -- the judge does not look at what follows
     is-fan : numberOf (judgeTold (kindOf (kindAt l)) (sizeAt l) (sourceAt l) (sheetTargets l) places counts false) ≡ 0
@@ -86,6 +86,6 @@ module _ (l : List ℕ) (b : Bytes l) (p c t : ℕ) (e : readAgainst l p c t ≡
       bytes-are = same-bytes;
       no-flaw = λ h.
           write-grants (lone (kindAt l) k) (ruled (kindAt l) (sizeAt l) (sourceAt l) (sheetTargets l) places counts)
-          (length (sheetOf (kindAt l) (sizeAt l) (sourceAt l) (pathsOf w places counts k))) (length out) several
+          (length (sheetOf VERSION (kindAt l) (sizeAt l) (sourceAt l) [] (pathsOf w places counts k))) (length out) several
           (fan-ruled (kindAt l) (sizeAt l) (sourceAt l) (sheetTargets l) places counts (is-accepted .known-mesh) is-fan) (omega (arith, ap length same-bytes));
     }

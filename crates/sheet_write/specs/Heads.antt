@@ -60,22 +60,22 @@ head-length kind size s k n =
     )
 
 module _ (kind size s : ℕ) (ps : List (List ℕ)) where
-  pub sheet-is : kind < 256 → size < 256 → length ps < 256 → headBytes kind size s (length ps) (length (pathsBytes ps)) ++ pathsBytes ps ≡ sheetOf kind size s ps
+  pub sheet-is : kind < 256 → size < 256 → length ps < 256 → headBytes kind size s (length ps) (length (pathsBytes VERSION [] ps)) ++ pathsBytes VERSION [] ps ≡ sheetOf VERSION kind size s [] ps
   unfolding headBytes sheetOf bodyOf
   sheet-is hk hs hl =
-      let a = big 4 (length (pathsBytes ps) + 12) in
+      let a = big 4 (length (pathsBytes VERSION [] ps) + 12) in
       let one : big 1 VERSION ≡ VERSION ∷ [] = big-one VERSION (omega arith) in
-      ap (λ (v : List ℕ). a ++ v ++ big 1 kind ++ big 1 size ++ big 1 (length ps) ++ big 8 s ++ pathsBytes ps) one
-      ∙ ap (λ (v : List ℕ). a ++ (VERSION ∷ []) ++ v ++ big 1 size ++ big 1 (length ps) ++ big 8 s ++ pathsBytes ps) (big-one kind hk)
-      ∙ ap (λ (v : List ℕ). a ++ (VERSION ∷ []) ++ (kind ∷ []) ++ v ++ big 1 (length ps) ++ big 8 s ++ pathsBytes ps) (big-one size hs)
-      ∙ ap (λ (v : List ℕ). a ++ (VERSION ∷ []) ++ (kind ∷ []) ++ (size ∷ []) ++ v ++ big 8 s ++ pathsBytes ps) (big-one (length ps) hl)
-      ∙ ap (λ (v : List ℕ). v ++ big 8 s ++ pathsBytes ps) joined
-      ∙ ap (λ (v : List ℕ). v ++ pathsBytes ps) (append-assoc a (fields kind size (length ps)) (big 8 s))
-      ∙ append-assoc a (fields kind size (length ps) ++ big 8 s) (pathsBytes ps)
-      ∙ ap (λ (n : ℕ). big 4 n ++ (fields kind size (length ps) ++ big 8 s ++ pathsBytes ps)) (sym (body-length kind size s ps))
+      ap (λ (v : List ℕ). a ++ v ++ big 1 kind ++ big 1 size ++ big 1 (length ps) ++ big 8 s ++ pathsBytes VERSION [] ps) one
+      ∙ ap (λ (v : List ℕ). a ++ (VERSION ∷ []) ++ v ++ big 1 size ++ big 1 (length ps) ++ big 8 s ++ pathsBytes VERSION [] ps) (big-one kind hk)
+      ∙ ap (λ (v : List ℕ). a ++ (VERSION ∷ []) ++ (kind ∷ []) ++ v ++ big 1 (length ps) ++ big 8 s ++ pathsBytes VERSION [] ps) (big-one size hs)
+      ∙ ap (λ (v : List ℕ). a ++ (VERSION ∷ []) ++ (kind ∷ []) ++ (size ∷ []) ++ v ++ big 8 s ++ pathsBytes VERSION [] ps) (big-one (length ps) hl)
+      ∙ ap (λ (v : List ℕ). v ++ big 8 s ++ pathsBytes VERSION [] ps) joined
+      ∙ ap (λ (v : List ℕ). v ++ pathsBytes VERSION [] ps) (append-assoc a (fields VERSION kind size (length ps)) (big 8 s))
+      ∙ append-assoc a (fields VERSION kind size (length ps) ++ big 8 s) (pathsBytes VERSION [] ps)
+      ∙ ap (λ (n : ℕ). big 4 n ++ (fields VERSION kind size (length ps) ++ big 8 s ++ pathsBytes VERSION [] ps)) (sym (body-length VERSION kind size s [] ps))
     where
-      joined : big 4 (length (pathsBytes ps) + 12) ++ (VERSION ∷ []) ++ (kind ∷ []) ++ (size ∷ []) ++ (length ps ∷ []) ≡ big 4 (length (pathsBytes ps) + 12) ++ fields kind size (length ps)
+      joined : big 4 (length (pathsBytes VERSION [] ps) + 12) ++ (VERSION ∷ []) ++ (kind ∷ []) ++ (size ∷ []) ++ (length ps ∷ []) ≡ big 4 (length (pathsBytes VERSION [] ps) + 12) ++ fields VERSION kind size (length ps)
       joined =
-          append-snoc (big 4 (length (pathsBytes ps) + 12) ++ (VERSION ∷ []) ++ (kind ∷ [])) size (length ps ∷ [])
-          ∙ append-snoc (big 4 (length (pathsBytes ps) + 12) ++ (VERSION ∷ [])) kind (size ∷ length ps ∷ [])
-          ∙ append-snoc (big 4 (length (pathsBytes ps) + 12)) VERSION (kind ∷ size ∷ length ps ∷ [])
+          append-snoc (big 4 (length (pathsBytes VERSION [] ps) + 12) ++ (VERSION ∷ []) ++ (kind ∷ [])) size (length ps ∷ [])
+          ∙ append-snoc (big 4 (length (pathsBytes VERSION [] ps) + 12) ++ (VERSION ∷ [])) kind (size ∷ length ps ∷ [])
+          ∙ append-snoc (big 4 (length (pathsBytes VERSION [] ps) + 12)) VERSION (kind ∷ size ∷ length ps ∷ [])

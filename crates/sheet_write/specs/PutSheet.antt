@@ -2,7 +2,7 @@
 use Prim.Native.Nat.{ℕ, _+_, _≤_, _<_}
 use mathlib.Core.Path.{_≡_, refl, sym, ap, ap₂, _∙_, subst}
 use mathlib.Core.Bool.{Bool, true, false}
-use mathlib.Core.List.{List, _++_}
+use mathlib.Core.List.{List, [], _++_}
 use mathlib.Core.Option.{Option, none}
 use native.Mathlib.Nat.{zero-add}
 use native.Mathlib.Omega.{arith}
@@ -16,7 +16,7 @@ use Rattle.cube.specs.Sizes.{known-most}
 use Rattle.two_parts.specs.Parts.{known-bounds}
 use Rattle.mesh.specs.Kinds.{Kind, meshOf}
 use Rattle.mesh.specs.Laws.{planned-case}
-use Rattle.sheet.specs.Format.{pathsBytes, pathsOf}
+use Rattle.sheet.specs.Format.{VERSION, pathsBytes, pathsOf}
 use Rattle.sheet.specs.Lengths.{sheet-length, pathsFrom-length}
 use Rattle.sheet.specs.Says.{flawed, settled, wrote, tellWritten}
 use Rattle.sheet.specs.declared.Flaw.{Flaw}
@@ -49,7 +49,7 @@ module _ (kind size s k : ℕ) (places counts out : List ℕ) (a : Sheeted kind 
 
   module _ {n : ℕ} (e : n ≡ total counts k) where
     long : length (bytes kind size s k places counts) ≡ n + 16
-    long = sheet-length kind size s ps ∙ ap (λ (x : ℕ). x + 16) (paths-total w places counts k ∙ sym e)
+    long = sheet-length VERSION kind size s [] ps ∙ ap (λ (x : ℕ). x + 16) (paths-total w places counts k ∙ sym e)
 
     against-is : (b : Bool) → ltb (length out) (n + 16) ≡ b → putAgainst kind size s k places counts out ≡ flawed b flaw.NoRoom none
     against-is b f = ap (λ (x : Bool). flawed x flaw.NoRoom none) (ap (ltb (length out)) long ∙ f)
@@ -63,7 +63,7 @@ module _ (kind size s k : ℕ) (places counts out : List ℕ) (a : Sheeted kind 
         }
 
     pub put-done : {v : ℕ} {out₁ out₂ : List ℕ} → n + 16 ≤ length out → v ≡ w → out₁ ≡ sets out 0 (headBytes kind size s k n)
-        → out₂ ≡ sets out₁ 16 (pathsBytes (pathsOf v places counts k)) → Put kind size s k places counts out (written.Bytes (n + 16)) out₂
+        → out₂ ≡ sets out₁ 16 (pathsBytes VERSION [] (pathsOf v places counts k)) → Put kind size s k places counts out (written.Bytes (n + 16)) out₂
     put-done {v} {out₁} {out₂} l wide p q =
         let o = against-is false (le-ltb (length out) (n + 16) l) in
         record {
@@ -74,14 +74,14 @@ module _ (kind size s k : ℕ) (places counts out : List ℕ) (a : Sheeted kind 
         counted : length ps ≡ k
         counted = pathsFrom-length w places counts 0 k
 
-        headed : headBytes kind size s k n ≡ headBytes kind size s (length ps) (length (pathsBytes ps))
+        headed : headBytes kind size s k n ≡ headBytes kind size s (length ps) (length (pathsBytes VERSION [] ps))
         headed = ap₂ (headBytes kind size s) (sym counted) (e ∙ sym (paths-total w places counts k))
 
         whole : out₂ ≡ bytes kind size s k places counts ++ drop (length (bytes kind size s k places counts)) out
         whole =
-            q ∙ ap₂ (λ (x : List ℕ) (y : ℕ). sets x 16 (pathsBytes (pathsOf y places counts k))) p wide
-            ∙ ap (λ (x : ℕ). sets (sets out 0 (headBytes kind size s k n)) x (pathsBytes ps)) (sym (head-length kind size s k n) ∙ sym (zero-add (length (headBytes kind size s k n))))
-            ∙ sym (sets-append out 0 (headBytes kind size s k n) (pathsBytes ps))
-            ∙ ap (sets out 0) (ap (λ (x : List ℕ). x ++ pathsBytes ps) headed ∙ sheet-is kind size s ps (single .0) (single .1) (omega (arith, counted, a .paths .headed .few)))
+            q ∙ ap₂ (λ (x : List ℕ) (y : ℕ). sets x 16 (pathsBytes VERSION [] (pathsOf y places counts k))) p wide
+            ∙ ap (λ (x : ℕ). sets (sets out 0 (headBytes kind size s k n)) x (pathsBytes VERSION [] ps)) (sym (head-length kind size s k n) ∙ sym (zero-add (length (headBytes kind size s k n))))
+            ∙ sym (sets-append out 0 (headBytes kind size s k n) (pathsBytes VERSION [] ps))
+            ∙ ap (sets out 0) (ap (λ (x : List ℕ). x ++ pathsBytes VERSION [] ps) headed ∙ sheet-is kind size s ps (single .0) (single .1) (omega (arith, counted, a .paths .headed .few)))
             ∙ sets-eq (bytes kind size s k places counts) out 0 (omega (arith, long))
             ∙ ap (λ (x : ℕ). bytes kind size s k places counts ++ drop x out) (zero-add (length (bytes kind size s k places counts)))

@@ -3,7 +3,7 @@
 use Prim.Native.Nat.{ℕ}
 use mathlib.Core.Path.{_≡_}
 use mathlib.Core.Bool.{false}
-use mathlib.Core.List.{List, _++_}
+use mathlib.Core.List.{List, [], _++_}
 use mathlib.Core.Option.{Option, none, some}
 use lib.Dec.{eqb, ltb}
 use lib.ListN.{length, drop}
@@ -11,7 +11,7 @@ use Rattle.scan.specs.Scan.{pick}
 use Rattle.paths.specs.Mesh.{width}
 use Rattle.mesh.specs.Kinds.{kindOf, meshOf, planned}
 use Rattle.judge.specs.Says.{numberOf, judgeTold}
-use Rattle.sheet.specs.Format.{sheetOf, pathsOf}
+use Rattle.sheet.specs.Format.{VERSION, sheetOf, pathsOf}
 use Rattle.sheet.specs.Says.{flawed, settled, lone, tellWritten, writtenTold}
 use Rattle.sheet.specs.declared.Flaw.{Flaw}
 use Rattle.sheet.specs.declared.Flaw.the-variants as flaw
@@ -19,7 +19,7 @@ use Rattle.sheet.specs.declared.Written.{Written}
 
 -- the sheet of k paths
 abbrev pub bytes : (kind size s k : ℕ) (places counts : List ℕ) → List ℕ
-bytes kind size s k places counts = sheetOf kind size s (pathsOf (width (meshOf kind size)) places counts k)
+bytes kind size s k places counts = sheetOf VERSION kind size s [] (pathsOf (width (meshOf kind size)) places counts k)
 
 module _ (kind size s k : ℕ) (places counts out : List ℕ) where
   abbrev pub putAgainst : Option Flaw
@@ -37,7 +37,7 @@ ruled kind size s targets places counts = pick (planned kind size) (numberOf (ju
 module _ (kind size s : ℕ) (targets places counts out : List ℕ) where
   -- the sheet of the paths
   abbrev pub sheet : List ℕ
-  sheet = sheetOf kind size s (pathsOf (width (meshOf kind size)) places counts (length targets))
+  sheet = sheetOf VERSION kind size s [] (pathsOf (width (meshOf kind size)) places counts (length targets))
 
   -- what the judge says, and then room
   abbrev pub fanAgainst : Option Flaw

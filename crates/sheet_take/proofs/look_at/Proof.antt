@@ -2,7 +2,7 @@
 use mathlib.Core.Path.{sym, ap, _∙_}
 use mathlib.Core.Option.{Option, none}
 use native.Mathlib.Omega.{arith}
-use Rattle.sheet.specs.Format.{after}
+use Rattle.sheet.specs.Format.{VERSION, after}
 use Rattle.sheet_take.specs.Says.{tellStride}
 use Rattle.sheet_take.specs.Looking.{path-cut, path-bare, path-far, path-short, path-fine}
 use Rattle.sheet.specs.declared.Flaw.{Flaw}
@@ -17,16 +17,16 @@ sub-left : tie.Need-sub-left
 sub-left c = search needs
 
 returns : tie.Need-returns
-returns c = let s = c .before .before in let a = s .args in ap (λ (o : Option Flaw). tellStride o (after (a .bytes .now) (a .at))) (path-cut (a .longest) (a .bytes .now) (a .at) (a .i) (omega (arith, c .if1 .taken, s .pre .0)))
+returns c = let s = c .before .before in let a = s .args in ap (λ (o : Option Flaw). tellStride o (after VERSION (a .bytes .now) (a .at))) (path-cut VERSION (a .longest) (a .bytes .now) (a .at) (a .i) (omega (arith, c .if1 .taken, s .pre .0)))
 
 number-requires : tie.Need-number-requires
 number-requires c κs = search needs
 
 returns-2 : tie.Need-returns-2
-returns-2 c = let s = c .before .before .before .before in let a = s .args in ap (λ (o : Option Flaw). tellStride o (after (a .bytes .now) (a .at))) (path-bare (a .longest) (a .bytes .now) (a .at) (a .i) (omega (arith, c .before .before .if1 .left, s .pre .0)) (sym (c .before .number .ensures) ∙ c .if2 .taken))
+returns-2 c = let s = c .before .before .before .before in let a = s .args in ap (λ (o : Option Flaw). tellStride o (after VERSION (a .bytes .now) (a .at))) (path-bare VERSION (a .longest) (a .bytes .now) (a .at) (a .i) (omega (arith, c .before .before .if1 .left, s .pre .0)) (sym (c .before .number .ensures) ∙ c .if2 .taken))
 
 returns-3 : tie.Need-returns-3
-returns-3 c = let s = c .before .before .before .before .before in let a = s .args in ap (λ (o : Option Flaw). tellStride o (after (a .bytes .now) (a .at))) (path-far (a .longest) (a .bytes .now) (a .at) (a .i) (omega (arith, c .before .before .before .if1 .left, s .pre .0)) (λ e. c .before .if2 .left (c .before .before .number .ensures ∙ e)) (omega (arith, c .if3 .taken, c .before .before .number .ensures)))
+returns-3 c = let s = c .before .before .before .before .before in let a = s .args in ap (λ (o : Option Flaw). tellStride o (after VERSION (a .bytes .now) (a .at))) (path-far VERSION (a .longest) (a .bytes .now) (a .at) (a .i) (omega (arith, c .before .before .before .if1 .left, s .pre .0)) (λ e. c .before .if2 .left (c .before .before .number .ensures ∙ e)) (omega (arith, c .if3 .taken, c .before .before .number .ensures)))
 
 mul-size : tie.Need-mul-size
 mul-size c = search needs
@@ -35,13 +35,13 @@ add-size : tie.Need-add-size
 add-size c = search needs
 
 returns-4 : tie.Need-returns-4
-returns-4 c = let s = c .before .before .before .before .before .before in let a = s .args in ap (λ (o : Option Flaw). tellStride o (after (a .bytes .now) (a .at))) (path-short (a .longest) (a .bytes .now) (a .at) (a .i) (omega (arith, c .before .before .before .before .if1 .left, s .pre .0)) (λ e. c .before .before .if2 .left (c .before .before .before .number .ensures ∙ e)) (omega (arith, c .before .if3 .left, c .before .before .before .number .ensures)) (omega (arith, c .if4 .taken, c .before .before .before .number .ensures, s .pre .0)))
+returns-4 c = let s = c .before .before .before .before .before .before in let a = s .args in ap (λ (o : Option Flaw). tellStride o (after VERSION (a .bytes .now) (a .at))) (path-short VERSION (a .longest) (a .bytes .now) (a .at) (a .i) (omega (arith, c .before .before .before .before .if1 .left, s .pre .0)) (λ e. c .before .before .if2 .left (c .before .before .before .number .ensures ∙ e)) (omega (arith, c .before .if3 .left, c .before .before .before .number .ensures)) (omega (arith, c .if4 .taken, c .before .before .before .number .ensures, s .pre .0)))
 
 add-t13 : tie.Need-add-t13
 add-t13 c = search needs
 
 returns-5 : tie.Need-returns-5
-returns-5 c = let s = c .before .before .before .before .before .before in let a = s .args in ap (tellStride none) (omega (arith, c .before .before .before .number .ensures)) ∙ ap (λ (o : Option Flaw). tellStride o (after (a .bytes .now) (a .at))) (path-fine (a .longest) (a .bytes .now) (a .at) (a .i) (omega (arith, c .before .before .before .before .if1 .left, s .pre .0)) (λ e. c .before .before .if2 .left (c .before .before .before .number .ensures ∙ e)) (omega (arith, c .before .if3 .left, c .before .before .before .number .ensures)) (omega (arith, c .if4 .left, c .before .before .before .number .ensures, s .pre .0)))
+returns-5 c = let s = c .before .before .before .before .before .before in let a = s .args in ap (tellStride none) (omega (arith, c .before .before .before .number .ensures)) ∙ ap (λ (o : Option Flaw). tellStride o (after VERSION (a .bytes .now) (a .at))) (path-fine VERSION (a .longest) (a .bytes .now) (a .at) (a .i) (omega (arith, c .before .before .before .before .if1 .left, s .pre .0)) (λ e. c .before .before .if2 .left (c .before .before .before .number .ensures ∙ e)) (omega (arith, c .before .if3 .left, c .before .before .before .number .ensures)) (omega (arith, c .if4 .left, c .before .before .before .number .ensures, s .pre .0)))
 
 pub look-at-spec : {M : Type 1} → statement M
 look-at-spec =
