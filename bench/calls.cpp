@@ -1,8 +1,8 @@
 // One table of all public calls: nanoseconds of the library's, of the same in C++ built with -O2, their ratio, what the ratio is to be at most where a bar is set, and the stack of
 // the library's call. The rows of one mesh are measured together, on the same requests at random: the best of many bursts, in turn.
-#include "masks.hpp"
 #include "measure.hpp"
 #include "planner.hpp"
+#include "two_masks.hpp"
 #include "two_planner.hpp"
 #include "vectors.hpp"
 

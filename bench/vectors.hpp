@@ -1,11 +1,11 @@
-// The planners of masks.hpp, tuned by hand: targets are looked at all at once, four in a vector or as planes of bits, a path's turns are written down when it is laid, and
+// The planners of masks.hpp and two_masks.hpp, tuned by hand: targets are looked at all at once, four in a vector or as planes of bits, a path's turns are written down when it is laid, and
 // paths are written four places at once. For processors with SSE2.
 #pragma once
 #include <emmintrin.h>
 
 #include <type_traits>
 
-#include "masks.hpp"
+#include "two_masks.hpp"
 
 namespace vectors {
 

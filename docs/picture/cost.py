@@ -11,7 +11,7 @@ import sys
 # The calls drawn, what stands beside them in the row that is taken, and their colours.
 CALLS = (
     ("plan", "C++ by masks", "#c2410c"),
-    ("fan", "C++ by masks", "#1d4ed8"),
+    ("fan", "C++ by vectors", "#1d4ed8"),
     ("judge", "C++ by a table", "#15803d"),
     ("read_sheet", "C++", "#7e22ce"),
     ("route", "C++ by hop", "#be185d"),
