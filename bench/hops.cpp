@@ -1,96 +1,115 @@
-// Nanoseconds a next hop of the two-level mesh, for orders 1 to 5: the library's call beside the rule written in C++, which seeks the first differing block
-// bit of the Gray order place by place. What is asked: the relays on plain routes, each at any of its hops; the best of many bursts. And the hops of plain
-// routes between relays at random, beside the most that a route may have.
-#include "../include/gustparsley.h"
+// The hops of the library's paths, beside the most that they may be: of fans in the two-level mesh with all links, half of them crowded into two blocks, and of plain routes; for
+// orders 1 to 3 also the distances, and what a user would reach for, disjoint paths by Boost Graph's maximum flow over the whole mesh (flow.hpp): its hops, and its time beside
+// the library's, each the best of several bursts.
+#include "flow.hpp"
+#include "measure.hpp"
+#include "same.hpp"
 
-#include <algorithm>
-#include <chrono>
-#include <cstdio>
-#include <cstdlib>
 #include <random>
-#include <vector>
+#include <set>
 
 namespace {
 
-struct Pair {
-  uint64_t source, target;
+struct Request {
+  uint64_t source;
+  std::vector<uint64_t> targets;
 };
 
-uint64_t lowest(uint64_t x) { return x & (~x + 1); }
-
-// The next hop by the rule.
-uint64_t rule(uint64_t m, uint64_t source, uint64_t target) {
-  const uint64_t slots = uint64_t{1} << m, slot = source & (slots - 1), goal = target & (slots - 1);
-  const uint64_t apart = (source ^ target) >> m;
-  uint64_t p = goal;
-  if (apart) {
-    uint64_t i = 0;
-    while (!(apart >> (i ^ i >> 1) & 1)) ++i;
-    p = i ^ i >> 1;
-  }
-  if (slot != p) return source ^ lowest(slot ^ p);
-  return apart ? source ^ (uint64_t{1} << p << m) : source;
-}
-
-// The call that the library has, by the rule.
-__attribute__((noinline)) uint64_t by_rule(uint64_t kind, uint64_t m, uint64_t source, uint64_t target, uint8_t *out, size_t length) {
-  if (kind != GUST_TWO_LEVEL || m < 1 || m > 5) return GUST_UNKNOWN_SIZE * 256;
-  const uint64_t relays = uint64_t{1} << (m + (uint64_t{1} << m));
-  if (source >= relays) return GUST_SOURCE_OUT * 256;
-  if (target >= relays) return GUST_TARGET_OUT * 256;
-  if (length < 8) return GUST_NO_ROOM * 256;
-  const uint64_t next = rule(m, source, target);
-  for (int i = 0; i < 8; ++i) out[i] = static_cast<uint8_t>(next >> (56 - 8 * i));
-  return 0;
-}
-
-std::vector<Pair> pairs(unsigned m, std::mt19937_64 &random) {
+std::vector<Request> requests(unsigned m, std::mt19937_64 &random) {
   const uint64_t slots = uint64_t{1} << m, mask = (slots << slots) - 1;
-  std::vector<Pair> all;
-  while (all.size() < 4096) {
-    const uint64_t target = random() & mask;
-    std::vector<uint64_t> way;
-    for (uint64_t at = random() & mask; at != target; at = rule(m, at, target)) way.push_back(at);
-    if (!way.empty()) all.push_back({way[random() % way.size()], target});
+  std::vector<Request> all;
+  while (all.size() < 256) {
+    Request q{random() & mask, {}};
+    const uint64_t other = random() & mask;
+    std::set<uint64_t> seen{q.source};
+    while (q.targets.size() < m + 1) {
+      uint64_t t = random() & mask;
+      if (all.size() % 2 && random() % 8) t = ((random() % 2 ? q.source : other) & ~(slots - 1)) | (t & (slots - 1));
+      if (seen.insert(t).second) q.targets.push_back(t);
+    }
+    all.push_back(q);
   }
   return all;
 }
 
-using Call = uint64_t (*)(uint64_t, uint64_t, uint64_t, uint64_t, uint8_t *, size_t);
+// Average and worst of some numbers.
+struct Spread {
+  double sum = 0;
+  uint64_t n = 0, worst = 0;
+  void add(uint64_t x) {
+    sum += static_cast<double>(x);
+    worst = std::max(worst, x);
+    ++n;
+  }
+  std::string text() const {
+    char out[64] = "";
+    if (n) std::snprintf(out, sizeof out, "%.1f, %llu", sum / static_cast<double>(n), (unsigned long long)worst);
+    return out;
+  }
+};
 
-double burst(unsigned m, const std::vector<Pair> &all, Call call, std::vector<uint8_t> &out) {
-  const auto start = std::chrono::steady_clock::now();
-  for (size_t i = 0; i < all.size(); ++i)
-    if (call(GUST_TWO_LEVEL, m, all[i].source, all[i].target, &out[8 * i], 8)) std::abort();
-  return std::chrono::duration<double, std::nano>(std::chrono::steady_clock::now() - start).count() / static_cast<double>(all.size());
+// Nanoseconds of a request: the best of many bursts of all.
+template <class Do>
+double best(const std::vector<Request> &all, Do once) {
+  double time = 1e99;
+  for (int i = 0; i < 400; ++i) {
+    const double start = measure::now();
+    for (const Request &q : all) once(q);
+    time = std::min(time, (measure::now() - start) / static_cast<double>(all.size()));
+  }
+  return time;
+}
+
+// The same where a call takes long: the best of each request by itself.
+template <class Do>
+double best_of_each(const std::vector<Request> &all, Do once) {
+  double sum = 0;
+  for (const Request &q : all) {
+    double time = 1e99;
+    for (int i = 0; i < 10; ++i) {
+      const double start = measure::now();
+      once(q);
+      time = std::min(time, measure::now() - start);
+    }
+    sum += time;
+  }
+  return sum / static_cast<double>(all.size());
 }
 
 void row(unsigned m, std::mt19937_64 &random) {
-  const std::vector<Pair> all = pairs(m, random);
-  std::vector<uint8_t> ours(8 * all.size()), theirs(8 * all.size());
-  double a = 1e99, b = 1e99;
-  for (int i = 0; i < 300; ++i) {
-    a = std::min(a, burst(m, all, gust_next_hop, ours));
-    b = std::min(b, burst(m, all, by_rule, theirs));
+  static uint64_t places[6 * 207], counts[6];
+  const std::vector<Request> all = requests(m, random);
+  const auto plan = [m](const Request &q) {
+    if (gust_fan(GUST_TWO_LEVEL, m, q.source, q.targets.data(), m + 1, places, 6 * 207, counts, 6).number) std::abort();
+  };
+  Spread hops, routes, distances, flows;
+  for (const Request &q : all) {
+    plan(q);
+    for (size_t i = 0; i <= m; ++i) hops.add(counts[i]);
   }
-  if (ours != theirs) std::abort();
-  const uint64_t slots = uint64_t{1} << m, mask = (slots << slots) - 1;
-  uint64_t out[207], worst = 0;
-  double hops = 0;
-  const int routes = 20000;
-  for (int i = 0; i < routes; ++i) {
-    const GustAnswer found = gust_route(GUST_TWO_LEVEL, m, random() & mask, random() & mask, out, 207);
-    if (found.number) std::abort();
-    hops += static_cast<double>(found.value);
-    worst = std::max(worst, found.value);
+  const uint64_t relays = same::relays(GUST_TWO_LEVEL, m);
+  for (int i = 0; i < 20000; ++i) routes.add(gust_route(GUST_TWO_LEVEL, m, random() % relays, random() % relays, places, 207).value);
+  std::string times;
+  if (m <= 3) {
+    flow::Mesh mesh(m);
+    for (const Request &q : all) {
+      for (size_t n : mesh.plan(q.source, q.targets)) flows.add(n);
+      for (size_t n : mesh.distances(q.source, q.targets)) distances.add(n);
+    }
+    char text[32];
+    std::snprintf(text, sizeof text, "%.0f", best_of_each(all, [&](const Request &q) { mesh.plan(q.source, q.targets); }) / best(all, plan));
+    times = text;
   }
-  std::printf("two, m = %u: Rattle %5.1f ns a next hop, C++ %5.1f ns, ratio %.2f; hops of a route: average %.1f, worst %llu, at most %llu\n", m, a, b, a / b,
-              hops / routes, (unsigned long long)worst, (unsigned long long)(2 * slots + 2 * m - 1));
+  std::printf("| %u | %s, %llu | %s | %s | %s | %s, %u |\n", m, hops.text().c_str(), (unsigned long long)same::longest(GUST_TWO_LEVEL, m), distances.text().c_str(),
+              flows.text().c_str(), times.c_str(), routes.text().c_str(), (2u << m) + 2 * m - 1);
 }
 
 }  // namespace
 
 int main() {
   std::mt19937_64 random(2025);
+  std::printf(
+      "| order | hops of a fan: average, worst, at most | distances: average, worst | Boost's hops: average, worst | Boost's time to ours | hops of a route: average, worst seen, at most "
+      "|\n|---|---|---|---|---|---|\n");
   for (unsigned m = 1; m <= 5; ++m) row(m, random);
 }
