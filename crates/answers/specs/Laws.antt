@@ -9,7 +9,7 @@ use lib.Dec.{eqb, leb}
 use Rattle.scan.specs.Scan.{pick}
 use Rattle.answers.specs.Told.{number, place, Told, told, tell, answerTold, yesNoTold, checkedTold, against}
 use Rattle.answers.specs.declared.Refusal.{Refusal}
-use Rattle.answers.specs.declared.Refusal.the-variants.{Unreadable, UnknownSize, NoDistance, SourceOut, NoTarget, TooMany, TargetOut, TargetIsSource, TargetAgain, BadDoors, NoRoom}
+use Rattle.answers.specs.declared.Refusal.the-variants.{Unreadable, UnknownSize, NotServed, NoDistance, SourceOut, NoTarget, TooMany, TargetOut, TargetIsSource, TargetAgain, BadDoors, SourceStopped, TargetStopped, NoRoom, NoPath}
 use Rattle.answers.specs.declared.Answer.{Answer}
 use Rattle.answers.specs.declared.Answer.the-variants as answer
 use Rattle.answers.specs.declared.Checked.{Checked}
@@ -26,6 +26,7 @@ pub refusal : ℕ → ℕ → Refusal
 refusal n p =
     pick (eqb n 10) Unreadable
     (pick (eqb n 1) UnknownSize
+    (pick (eqb n 52) NotServed
     (pick (eqb n 9) NoDistance
     (pick (eqb n 2) SourceOut
     (pick (eqb n 3) NoTarget
@@ -33,12 +34,16 @@ refusal n p =
     (pick (eqb n 5) (TargetOut p)
     (pick (eqb n 6) (TargetIsSource p)
     (pick (eqb n 7) (TargetAgain p)
-    (pick (eqb n 11) BadDoors NoRoom)))))))))
+    (pick (eqb n 11) BadDoors
+    (pick (eqb n 43) SourceStopped
+    (pick (eqb n 44) TargetStopped
+    (pick (eqb n 45) NoPath NoRoom)))))))))))))
 
 pub refusal-back : (why : Refusal) → refusal (number why) (place why) ≡ why
 unfolding refusal
 refusal-back Unreadable = refl
 refusal-back UnknownSize = refl
+refusal-back NotServed = refl
 refusal-back NoDistance = refl
 refusal-back SourceOut = refl
 refusal-back NoTarget = refl
@@ -47,13 +52,17 @@ refusal-back (TargetOut p) = refl
 refusal-back (TargetIsSource p) = refl
 refusal-back (TargetAgain p) = refl
 refusal-back BadDoors = refl
+refusal-back SourceStopped = refl
+refusal-back TargetStopped = refl
 refusal-back NoRoom = refl
+refusal-back NoPath = refl
 
 -- the numbers of refusals: none is 0, and none is that of a finding, 20 to 25
 pub number-apart : (why : Refusal) → (eqb (number why) 0 ≡ false) × (isFinding (number why) ≡ false)
 unfolding isFinding
 number-apart Unreadable = (refl, refl)
 number-apart UnknownSize = (refl, refl)
+number-apart NotServed = (refl, refl)
 number-apart NoDistance = (refl, refl)
 number-apart SourceOut = (refl, refl)
 number-apart NoTarget = (refl, refl)
@@ -62,12 +71,16 @@ number-apart (TargetOut p) = (refl, refl)
 number-apart (TargetIsSource p) = (refl, refl)
 number-apart (TargetAgain p) = (refl, refl)
 number-apart BadDoors = (refl, refl)
+number-apart SourceStopped = (refl, refl)
+number-apart TargetStopped = (refl, refl)
 number-apart NoRoom = (refl, refl)
+number-apart NoPath = (refl, refl)
 
 -- they have two digits at most
 pub number-few : (why : Refusal) → number why < 100
 number-few Unreadable = omega arith
 number-few UnknownSize = omega arith
+number-few NotServed = omega arith
 number-few NoDistance = omega arith
 number-few SourceOut = omega arith
 number-few NoTarget = omega arith
@@ -76,7 +89,10 @@ number-few (TargetOut p) = omega arith
 number-few (TargetIsSource p) = omega arith
 number-few (TargetAgain p) = omega arith
 number-few BadDoors = omega arith
+number-few SourceStopped = omega arith
+number-few TargetStopped = omega arith
 number-few NoRoom = omega arith
+number-few NoPath = omega arith
 
 pub number-some : (why : Refusal) → eqb (number why) 0 ≡ false
 number-some why = number-apart why .0
@@ -116,6 +132,15 @@ tell-back : (o : Option Refusal) → againstOf (tell o 0 0) ≡ o
 unfolding againstOf
 tell-back none = refl
 tell-back (some why) = ap (λ (b : Bool). pick b none (some (refusal (number why) (place why)))) (number-some why) ∙ ap some (refusal-back why)
+
+-- an answer that refuses says what stands against it
+pub answer-refused : (why : Refusal) (o : Option Refusal) (v : ℕ) → answerTold (answer.Refused why) ≡ tell o 0 v → some why ≡ o
+unfolding againstOf
+answer-refused why o v e = sym (tell-back (some why)) ∙ ap againstOf e ∙ back o
+  where
+    back : (o : Option Refusal) → againstOf (tell o 0 v) ≡ o
+    back none = refl
+    back (some w) = tell-back (some w)
 
 pub checked-against : (r : Checked) (o : Option Refusal) → checkedTold r ≡ tell o 0 0 → against r ≡ o
 checked-against r o e = sym (tell-back (against r)) ∙ ap againstOf e ∙ tell-back o

@@ -8,6 +8,8 @@ pub enum Refusal {
     Unreadable,
     // 1: a kind or size that is not known.
     UnknownSize,
+    // 52: a kind of mesh that the routine does not serve.
+    NotServed,
     // 9: a distance asked of a mesh that does not answer it.
     NoDistance,
     // 2: the source is no relay of the mesh.
@@ -24,8 +26,14 @@ pub enum Refusal {
     TargetAgain(usize),
     // 11: doors that the mesh does not have, or fewer of them than targets.
     BadDoors,
+    // 43: the source has stopped.
+    SourceStopped,
+    // 44: the target has stopped.
+    TargetStopped,
     // 8: a lent slice is too short.
     NoRoom,
+    // 45: no path of running relays joins the two.
+    NoPath,
 }
 
 // A number, or a refusal.
@@ -55,6 +63,7 @@ impl Refusal {
         match self {
             Refusal::Unreadable => 10,
             Refusal::UnknownSize => 1,
+            Refusal::NotServed => 52,
             Refusal::NoDistance => 9,
             Refusal::SourceOut => 2,
             Refusal::NoTarget => 3,
@@ -63,7 +72,10 @@ impl Refusal {
             Refusal::TargetIsSource(_) => 6,
             Refusal::TargetAgain(_) => 7,
             Refusal::BadDoors => 11,
+            Refusal::SourceStopped => 43,
+            Refusal::TargetStopped => 44,
             Refusal::NoRoom => 8,
+            Refusal::NoPath => 45,
         }
     }
 
@@ -74,6 +86,7 @@ impl Refusal {
         match self {
             Refusal::Unreadable => 0,
             Refusal::UnknownSize => 0,
+            Refusal::NotServed => 0,
             Refusal::NoDistance => 0,
             Refusal::SourceOut => 0,
             Refusal::NoTarget => 0,
@@ -82,7 +95,10 @@ impl Refusal {
             Refusal::TargetIsSource(at) => at,
             Refusal::TargetAgain(at) => at,
             Refusal::BadDoors => 0,
+            Refusal::SourceStopped => 0,
+            Refusal::TargetStopped => 0,
             Refusal::NoRoom => 0,
+            Refusal::NoPath => 0,
         }
     }
 }

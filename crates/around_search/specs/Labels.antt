@@ -93,7 +93,6 @@ abbrev Ahead : (stopped : List ℕ) (lab q : ℕ → ℕ) (head tail n r : ℕ) 
 Ahead stopped lab q head tail n r = ((has stopped r ≡ false) × (0 < lab r) × (lab r ≤ suc n)) ⊎ ((i : ℕ) × (head ≤ i) × (i < tail) × (lab (q i) ≤ n))
 
 module _ {m : Mesh} {near : ℕ → ℕ → ℕ} (L : Links m near) {stopped : List ℕ} {t : ℕ} where
-
   level : {lab q : ℕ → ℕ} {head done tail : ℕ} → Reached m near stopped t lab q head done tail
       → (n r : ℕ) → r < m .relays → Way (avoiding m stopped) n r t → Ahead stopped lab q head tail n r
   level {lab} {q} {head} {done} {tail} R zero r h e =

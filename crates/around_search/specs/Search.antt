@@ -115,12 +115,14 @@ module _ {kind n links : ℕ} {stopped : List ℕ} {t : ℕ} where
 
       entered : Sought kind n stopped t room' head (suc done) (suc tail)
       entered =
-          record { reached = enter (known-near kind n (G .there)) (S .sought .reached) (S .before) (omega (arith, G .linked))
-          (ap (label room) (sym w) ∙ f)
-          (ap (label room') (sym w) ∙ E .new ∙ S .same ∙ ap (λ (y : ℕ). suc (label room y)) (S .front))
-          (λ j ne. E .old j (λ y. ne (y ∙ w)))
-          (E .last ∙ w)
-          (E .others) }
+          record {
+            reached = enter (known-near kind n (G .there)) (S .sought .reached) (S .before) (omega (arith, G .linked))
+                (ap (label room) (sym w) ∙ f)
+                (ap (label room') (sym w) ∙ E .new ∙ S .same ∙ ap (λ (y : ℕ). suc (label room y)) (S .front))
+                (λ j ne. E .old j (λ y. ne (y ∙ w)))
+                (E .last ∙ w)
+                (E .others);
+          }
 
   -- all of them
   pub spread-all : {room : List ℕ} {places head done tail x l : ℕ} → Roomy kind n links places → Spreading kind n links stopped t room head done tail x l → links ≤ done → Sought kind n stopped t room (head + 1) 0 tail
@@ -180,9 +182,11 @@ Started kind n links relays target stopped places room' =
 pub begins : {kind n links t places : ℕ} {stopped room room' : List ℕ} → Roomy kind n links places → t < meshOf kind n .relays → has stopped t ≡ false
     → Cleared (meshOf kind n .relays) stopped (length stopped) places room → Entered t 1 0 room room' → Sought kind n stopped t room' 0 0 1
 begins {kind} {n} {links} {t} {places} {stopped} {room} {room'} G h run C E =
-    record { reached = begin (known-near kind n (G .there)) h run (E .new) (E .last)
-    (λ r a b. E .old r (λ z. true-false b (ap (has stopped) z ∙ run)) ∙ cleared-halt C r a b)
-    (λ r a ne b. E .old r ne ∙ cleared-zero C r a b) }
+    record {
+      reached = begin (known-near kind n (G .there)) h run (E .new) (E .last)
+          (λ r a b. E .old r (λ z. true-false b (ap (has stopped) z ∙ run)) ∙ cleared-halt C r a b)
+          (λ r a ne b. E .old r ne ∙ cleared-zero C r a b);
+    }
 
 pub starts : {kind n links relays target places : ℕ} {stopped room room' : List ℕ} → Starts relays target places → Cleared relays stopped (length stopped) places room → Entered target 1 0 room room'
     → Started kind n links relays target stopped places room'
