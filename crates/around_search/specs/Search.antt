@@ -75,9 +75,9 @@ pub record Spreading (kind n links : ℕ) (stopped : List ℕ) (t : ℕ) (room :
   pub same : l ≡ suc (label room x)
 
 -- none of them yet
-pub begun : {kind n : ℕ} (links : ℕ) {stopped : List ℕ} {t : ℕ} {room : List ℕ} {head tail x y : ℕ} → Sought kind n stopped t room head 0 tail → head < tail → x ≡ queued room head → y ≡ label room x
-    → Spreading kind n links stopped t room head 0 tail x (y + 1)
-begun links R h e z = record { sought = R; before = h; within = omega arith; front = e; same = omega arith }
+pub begun : {kind n : ℕ} (links : ℕ) {stopped : List ℕ} {t : ℕ} {room : List ℕ} {head tail x l : ℕ} → Sought kind n stopped t room head 0 tail → head < tail → x ≡ queued room head → l ≡ suc (label room x)
+    → Spreading kind n links stopped t room head 0 tail x l
+begun links R h e z = record { sought = R; before = h; within = omega arith; front = e; same = z }
 
 pub as-roomy : {kind n links a b : ℕ} → Roomy kind n links a → b ≡ a → Roomy kind n links b
 as-roomy G e = record { there = G .there; linked = G .linked; enough = omega (arith, G .enough); small = G .small }

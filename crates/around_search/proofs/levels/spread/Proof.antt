@@ -46,8 +46,8 @@ loop-holds c =
     record {
       long = refl;
       ground = S .ground;
-      some = (stopped, t, begun (c .before .before .before .before .before .args .links) (S .sought) (S .before) f g);
-      all = λ stopped t R. begun (c .before .before .before .before .before .args .links) R (S .before) f g;
+      some = (stopped, t, begun (c .before .before .before .before .before .args .links) (S .sought) (S .before) f (omega (arith, g)));
+      all = λ stopped t R. begun (c .before .before .before .before .before .args .links) R (S .before) f (omega (arith, g));
     }
 
 near-requires : tie.Need-near-requires Inv-loop μ-loop
