@@ -19,7 +19,7 @@
  * two-level mesh the slot's bits, then the block's.
  *
  * Refusals. Every call tells a number, 0 where all is well, and with some numbers a place or a path. No call that tells a number other than 0 changes
- * any slice, and then every other value it returns is 0, but for the record that gust_arrive gives back as it was. Where several numbers apply, the first
+ * any slice, and then every other value it returns is 0, but for the working room of gust_way_round with 45, and the record that gust_arrive gives back as it was. Where several numbers apply, the first
  * in the order given with each function is told. */
 #ifndef GUSTPARSLEY_H
 #define GUSTPARSLEY_H
@@ -73,6 +73,10 @@ enum {
   /* Frames that arrive: */
   GUST_FRAME_SEEN = 41,      /* a frame of this number was passed before */
   GUST_FRAME_OLD = 42,       /* the number is neither ahead of the newest nor among the newest 64 */
+  /* Ways round what has stopped: */
+  GUST_SOURCE_STOPPED = 43,  /* the source has stopped */
+  GUST_TARGET_STOPPED = 44,  /* the target has stopped */
+  GUST_NO_PATH = 45,         /* no path of running relays joins the two */
   /* Kinds of mesh: */
   GUST_NOT_SERVED = 52       /* the routine does not serve this kind */
 };
@@ -176,6 +180,20 @@ GustAnswer gust_write_sheet(uint64_t kind, uint64_t size, uint64_t source, const
  * path that ends in that target; 22 and 24 path by path, with path and place. docs/SHEETS.md says what to mend. */
 GustReading gust_read_sheet(const uint8_t *bytes, size_t bytes_len, uint64_t *places, size_t places_len, uint64_t *counts, size_t counts_len,
                             uint64_t *targets, size_t targets_len);
+
+/* A way round: writes a shortest path from `source` to `target` on which no relay is in `stopped`, both ends included, from place 0 of `out`; the value is its hops,
+ * the fewest that any such path has. Which shortest path it is, where there are several, is the library's choice. Places after its last relay stay as they were. Equal ends
+ * that run have 0 hops. For the two-level mesh of orders 1 to 3. Numbers in `stopped` that are no relay, or stand there twice, do nothing.
+ * `room` is working room: it and `out` need a place for each relay (8, 64, 2,048). What it holds after a search, 45 included, means nothing. Numbers, in this order: 1, 52, 9, 2, 5, 43 where the source
+ * has stopped, 44 where the target has, 8 where `room_len` or `out_len` is below the number of relays, and 45 exactly where no path of running relays joins the two; then
+ * `out` is as it was. The time is in proportion to the relays and links of the mesh.
+ *
+ *     uint64_t stopped[] = {1}, room[8], out[8];
+ *     GustAnswer a = gust_way_round(GUST_TWO_LEVEL, 1, 0, 5, stopped, 1, room, 8, out, 8);
+ *
+ * a.value is 6, and out begins with 0 2 3 7 6 4 5. */
+GustAnswer gust_way_round(uint64_t kind, uint64_t size, uint64_t source, uint64_t target, const uint64_t *stopped, size_t stopped_len, uint64_t *room,
+                          size_t room_len, uint64_t *out, size_t out_len);
 
 /* ---- frames that come in several copies */
 

@@ -89,6 +89,10 @@ class Lent {
     return all_ == want;
   }
   bool untouched() const { return all_ == was_; }
+  // Whether the guards are as they were, whatever the buffer holds.
+  bool guarded() const {
+    return std::equal(all_.begin(), all_.begin() + kGuard, was_.begin()) && std::equal(all_.end() - kGuard, all_.end(), was_.end() - kGuard);
+  }
 
  private:
   static constexpr size_t kGuard = 8;

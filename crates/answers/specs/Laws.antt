@@ -9,7 +9,7 @@ use lib.Dec.{eqb, leb}
 use Rattle.scan.specs.Scan.{pick}
 use Rattle.answers.specs.Told.{number, place, Told, told, tell, answerTold, yesNoTold, checkedTold, against}
 use Rattle.answers.specs.declared.Refusal.{Refusal}
-use Rattle.answers.specs.declared.Refusal.the-variants.{Unreadable, UnknownSize, NotServed, NoDistance, SourceOut, NoTarget, TooMany, TargetOut, TargetIsSource, TargetAgain, BadDoors, NoRoom}
+use Rattle.answers.specs.declared.Refusal.the-variants.{Unreadable, UnknownSize, NotServed, NoDistance, SourceOut, NoTarget, TooMany, TargetOut, TargetIsSource, TargetAgain, BadDoors, SourceStopped, TargetStopped, NoRoom, NoPath}
 use Rattle.answers.specs.declared.Answer.{Answer}
 use Rattle.answers.specs.declared.Answer.the-variants as answer
 use Rattle.answers.specs.declared.Checked.{Checked}
@@ -34,7 +34,10 @@ refusal n p =
     (pick (eqb n 5) (TargetOut p)
     (pick (eqb n 6) (TargetIsSource p)
     (pick (eqb n 7) (TargetAgain p)
-    (pick (eqb n 11) BadDoors NoRoom))))))))))
+    (pick (eqb n 11) BadDoors
+    (pick (eqb n 43) SourceStopped
+    (pick (eqb n 44) TargetStopped
+    (pick (eqb n 45) NoPath NoRoom)))))))))))))
 
 pub refusal-back : (why : Refusal) → refusal (number why) (place why) ≡ why
 unfolding refusal
@@ -49,7 +52,10 @@ refusal-back (TargetOut p) = refl
 refusal-back (TargetIsSource p) = refl
 refusal-back (TargetAgain p) = refl
 refusal-back BadDoors = refl
+refusal-back SourceStopped = refl
+refusal-back TargetStopped = refl
 refusal-back NoRoom = refl
+refusal-back NoPath = refl
 
 -- the numbers of refusals: none is 0, and none is that of a finding, 20 to 25
 pub number-apart : (why : Refusal) → (eqb (number why) 0 ≡ false) × (isFinding (number why) ≡ false)
@@ -65,7 +71,10 @@ number-apart (TargetOut p) = (refl, refl)
 number-apart (TargetIsSource p) = (refl, refl)
 number-apart (TargetAgain p) = (refl, refl)
 number-apart BadDoors = (refl, refl)
+number-apart SourceStopped = (refl, refl)
+number-apart TargetStopped = (refl, refl)
 number-apart NoRoom = (refl, refl)
+number-apart NoPath = (refl, refl)
 
 -- they have two digits at most
 pub number-few : (why : Refusal) → number why < 100
@@ -80,7 +89,10 @@ number-few (TargetOut p) = omega arith
 number-few (TargetIsSource p) = omega arith
 number-few (TargetAgain p) = omega arith
 number-few BadDoors = omega arith
+number-few SourceStopped = omega arith
+number-few TargetStopped = omega arith
 number-few NoRoom = omega arith
+number-few NoPath = omega arith
 
 pub number-some : (why : Refusal) → eqb (number why) 0 ≡ false
 number-some why = number-apart why .0

@@ -12,7 +12,7 @@ use lib.ListN.{length, getD}
 use Rattle.scan.specs.Scan.{Spot, nowhere, at, pick, seek, among}
 use Rattle.answers.specs.Told.{number}
 use Rattle.answers.specs.declared.Refusal.{Refusal}
-use Rattle.answers.specs.declared.Refusal.the-variants.{Unreadable, UnknownSize, NotServed, NoDistance, SourceOut, NoTarget, TooMany, TargetOut, TargetIsSource, TargetAgain, BadDoors, NoRoom}
+use Rattle.answers.specs.declared.Refusal.the-variants.{Unreadable, UnknownSize, NotServed, NoDistance, SourceOut, NoTarget, TooMany, TargetOut, TargetIsSource, TargetAgain, BadDoors, SourceStopped, TargetStopped, NoRoom, NoPath}
 
 -- ---- faults
 
@@ -139,6 +139,10 @@ requestFaults relays links s targets =
 abbrev pub doorFaults : (bad : Bool) → List Fault
 doorFaults bad = fault bad BadDoors ∷ []
 
+-- 43, 44: of a source and a target that have stopped
+abbrev pub haltFaults : (source target : Bool) → List Fault
+haltFaults source target = fault source SourceStopped ∷ fault target TargetStopped ∷ []
+
 -- 8: a lent slice that is too short
 abbrev pub roomFaults : (room : Bool) → List Fault
 roomFaults room = fault room NoRoom ∷ []
@@ -147,7 +151,7 @@ roomFaults room = fault room NoRoom ∷ []
 
 -- the numbers of the refusals in the order in which they are told
 abbrev pub table : List ℕ
-table = 10 ∷ 1 ∷ 52 ∷ 9 ∷ 2 ∷ 3 ∷ 4 ∷ 5 ∷ 6 ∷ 7 ∷ 11 ∷ 8 ∷ []
+table = 10 ∷ 1 ∷ 52 ∷ 9 ∷ 2 ∷ 3 ∷ 4 ∷ 5 ∷ 6 ∷ 7 ∷ 11 ∷ 43 ∷ 44 ∷ 8 ∷ []
 
 -- the numbers that a list of faults tells, whatever its tests say
 abbrev pub numbers : List Fault → List ℕ

@@ -5,7 +5,7 @@ use mathlib.Core.Bool.{Bool, true, false}
 use mathlib.Core.List.{List}
 use mathlib.Core.Option.{Option, none, some}
 use Rattle.answers.specs.declared.Refusal.{Refusal}
-use Rattle.answers.specs.declared.Refusal.the-variants.{Unreadable, UnknownSize, NotServed, NoDistance, SourceOut, NoTarget, TooMany, TargetOut, TargetIsSource, TargetAgain, BadDoors, NoRoom}
+use Rattle.answers.specs.declared.Refusal.the-variants.{Unreadable, UnknownSize, NotServed, NoDistance, SourceOut, NoTarget, TooMany, TargetOut, TargetIsSource, TargetAgain, BadDoors, SourceStopped, TargetStopped, NoRoom, NoPath}
 use Rattle.answers.specs.declared.Answer.{Answer}
 use Rattle.answers.specs.declared.Answer.the-variants as answer
 use Rattle.answers.specs.declared.Checked.{Checked}
@@ -26,7 +26,10 @@ number (TargetOut p) = 5
 number (TargetIsSource p) = 6
 number (TargetAgain p) = 7
 number BadDoors = 11
+number SourceStopped = 43
+number TargetStopped = 44
 number NoRoom = 8
+number NoPath = 45
 
 -- the place that is told with it
 abbrev pub place : Refusal → ℕ
@@ -41,7 +44,10 @@ place (TargetOut p) = p
 place (TargetIsSource p) = p
 place (TargetAgain p) = p
 place BadDoors = 0
+place SourceStopped = 0
+place TargetStopped = 0
 place NoRoom = 0
+place NoPath = 0
 
 -- number, place and value
 pub data Told (A : Type 0) : Type 0 where

@@ -26,8 +26,14 @@ pub enum Refusal {
     TargetAgain(usize),
     // 11: doors that the mesh does not have, or fewer of them than targets.
     BadDoors,
+    // 43: the source has stopped.
+    SourceStopped,
+    // 44: the target has stopped.
+    TargetStopped,
     // 8: a lent slice is too short.
     NoRoom,
+    // 45: no path of running relays joins the two.
+    NoPath,
 }
 
 // A number, or a refusal.
@@ -66,7 +72,10 @@ impl Refusal {
             Refusal::TargetIsSource(_) => 6,
             Refusal::TargetAgain(_) => 7,
             Refusal::BadDoors => 11,
+            Refusal::SourceStopped => 43,
+            Refusal::TargetStopped => 44,
             Refusal::NoRoom => 8,
+            Refusal::NoPath => 45,
         }
     }
 
@@ -86,7 +95,10 @@ impl Refusal {
             Refusal::TargetIsSource(at) => at,
             Refusal::TargetAgain(at) => at,
             Refusal::BadDoors => 0,
+            Refusal::SourceStopped => 0,
+            Refusal::TargetStopped => 0,
             Refusal::NoRoom => 0,
+            Refusal::NoPath => 0,
         }
     }
 }

@@ -14,6 +14,7 @@ use Rattle.mesh.specs.Says as mesh
 use Rattle.cube_plan.specs.Says as doors
 use Rattle.line.specs.Says.{lineFaults}
 use Rattle.region.specs.Says.{planFaults}
+use Rattle.around.specs.Says.{roundFaultsIn}
 
 abbrev Ordered : List Fault → Type 0
 Ordered l = inOrder l ≡ true
@@ -35,6 +36,8 @@ pub record Orders : Type 0 where
   pub bundles : (K : Kind) (n s t : ℕ) (room : Bool) → Ordered (mesh.bundleFaultsIn K n s t room)
   pub cube-plan : (n s : ℕ) (targets places counts : List ℕ) → Ordered (doors.planFaults n s targets places counts)
   pub through : (n s d : ℕ) (targets places counts : List ℕ) → Ordered (doors.throughFaults n s d targets places counts)
+  -- a way round
+  pub rounds : (K : Kind) (n s t : ℕ) (stopped : List ℕ) (room : Bool) → Ordered (roundFaultsIn K n s t stopped room)
   -- a line of text; the host's plan, before 37 and 8
   pub line : (unreadable room : Bool) → Ordered (lineFaults unreadable room)
   pub plan : (kind size s : ℕ) (bytes : List ℕ) → Ordered (planFaults kind size s bytes)
@@ -53,6 +56,7 @@ orders = record {
   bundles = λ K n s t room. refl;
   cube-plan = λ n s targets places counts. refl;
   through = λ n s d targets places counts. refl;
+  rounds = λ K n s t stopped room. refl;
   line = λ unreadable room. refl;
   plan = λ kind size s bytes. refl;
 }

@@ -2,3 +2,4 @@
 pub mod Says
 pub mod Laws
 pub mod Unique
+pub mod Ways

@@ -2,6 +2,7 @@
 mod calls;
 mod frames;
 mod routines;
+mod ways;
 
 pub use calls::gust_next_hop;
 pub use calls::gust_plan;
@@ -18,3 +19,4 @@ pub use routines::gust_read_sheet;
 pub use routines::gust_route;
 pub use routines::gust_survivors;
 pub use routines::gust_write_sheet;
+pub use ways::gust_way_round;

@@ -33,14 +33,14 @@ module _ (k n : ℕ) where
   Far s t d = distanceTold (kindOf k) n s t ≡ told 0 0 d
 
   -- what is answered
-  record Answered (s t : ℕ) : Type 0 where
+  pub record Answered (s t : ℕ) : Type 0 where
     pub size : known k n ≡ true
     pub served : kindOf k .planned ≡ true
     pub near : kindOf k .undistanced n ≡ false
     pub source : s < meshOf k n .relays
     pub target : t < meshOf k n .relays
 
-  far-answered : (s t d : ℕ) → Far s t d → Answered s t × (distance (meshOf k n) s t ≡ d)
+  pub far-answered : (s t d : ℕ) → Far s t d → Answered s t × (distance (meshOf k n) s t ≡ d)
   far-answered s t d e =
       let v = value-told (first (distanceFaultsIn (kindOf k) n s t)) (distance (meshOf k n) s t) d e in
       let (z, p, r) = served-sound (kindOf k) n (distanceFaults (kindOf k .undistanced n) ++ pairFaults (meshOf k n .relays) s t) (v .0) in

@@ -42,7 +42,7 @@ in-append x [] r i = inr i
 in-append x (y ∷ l) r (inl e) = inl (inl e)
 in-append x (y ∷ l) r (inr i) = ⊎-elim (λ a. inl (inr a)) (λ a. inr a) (in-append x l r i)
 
-chain-append : (m : Mesh) (u e t : ℕ) (l : List ℕ) → Chain m u e l → t < m .relays → m .linked e t ≡ true → Chain m u t (l ++ (t ∷ []))
+pub chain-append : (m : Mesh) (u e t : ℕ) (l : List ℕ) → Chain m u e l → t < m .relays → m .linked e t ≡ true → Chain m u t (l ++ (t ∷ []))
 chain-append m u e t [] c h g = (h, ap (λ (x : ℕ). m .linked x t) c ∙ g, refl)
 chain-append m u e t (v ∷ l) c h g = (c .0, c .1, chain-append m v e t l (c .2) h g)
 

@@ -1,4 +1,4 @@
-// The cube's planners over plain numbers, exported: what the benchmark and the tests in C++ call. Each call returns the number of the refusal, or 0.
+// The cube's planners over plain numbers, exported: what the tests in C++ call. Each call returns the number of the refusal, or 0.
 ghost use Rattle.cube.specs.Cube.{cube};
 ghost use Rattle.cube_plan.specs.Says.{planAgainst, throughAgainst};
 ghost use Rattle.plan_calls.specs.Called.{Called, CalledThrough};
