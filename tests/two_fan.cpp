@@ -206,7 +206,8 @@ int main() {
   std::mt19937_64 random(11);
   for (unsigned m = 1; m <= 5; ++m) some(Two{m}, m == 1 ? 1000 : 400000, random);
 
-  for (uint64_t kind : {uint64_t{0}, uint64_t{3}, kFiller}) refuse(1, kind, 1, 0, {1}), refuse(1, kind, 1, kFiller, {});
+  for (uint64_t kind : {uint64_t{0}, uint64_t{4}, kFiller}) refuse(1, kind, 1, 0, {1}), refuse(1, kind, 1, kFiller, {});
+  refuse(1, 3, 0, 0, {1}), refuse(52, 3, 1, 0, {1}), refuse(52, 3, 1, kFiller, {});
   for (uint64_t size : {uint64_t{0}, uint64_t{6}, uint64_t{33}, kFiller}) refuse(1, 2, size, 0, {1}), refuse(1, 2, size, kFiller, {});
   for (unsigned m = 1; m <= 5; ++m) refuse_all(Two{m});
   std::printf("two_fan: %ld fans judged, %ld refusals\n", fans, refusals);
