@@ -1,0 +1,5 @@
+-- A mesh as a DIMACS edge file: its text, how a file is read, and what one comes to.
+pub mod Text
+pub mod Parse
+pub mod Says
+pub mod Needs
