@@ -3,3 +3,5 @@ pub mod Text
 pub mod Parse
 pub mod Says
 pub mod Needs
+pub mod Rows
+pub mod Pieces
