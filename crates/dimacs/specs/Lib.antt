@@ -3,5 +3,7 @@ pub mod Text
 pub mod Parse
 pub mod Says
 pub mod Needs
+pub mod Edges
+pub mod Lines
 pub mod Rows
 pub mod Pieces
