@@ -1,0 +1,5 @@
+-- Which files are read as a mesh.
+pub mod Once
+pub mod Edges
+pub mod Texts
+pub mod Trips
