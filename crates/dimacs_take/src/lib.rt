@@ -22,7 +22,7 @@ pub enum Piece {
 }
 
 // The place after the next newline.
-fn skip(text: &[u8], at: usize) -> Spot
+pub fn skip(text: &[u8], at: usize) -> Spot
     ensures { λ r. ⌜ takes.Skipped (now (text .entry)) at r ⌝ }
 {
     let mut i = at;

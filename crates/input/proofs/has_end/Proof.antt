@@ -1,14 +1,14 @@
--- `fan::has_end` meets its contract: a search of the text. Assumes nothing.
+-- `input::has_end` meets its contract: a search of the text. Assumes nothing.
 use native.Mathlib.Omega.{arith}
 use Prim.Native.Nat.{_-_}
 use mathlib.Core.Path.{sym}
 use lib.ListN.{length}
 use borrow.Author.Tests.{eq-eqb, ne-eqb}
 use Rattle.scan.specs.Laws.{Passed, passed-start, passed-more, true-any, false-any}
-use Rattle.fan.specs.Says.{isEnd}
+use Rattle.input.specs.Says.{isEnd}
 use borrow.Author.Needs.{needs}
-use Rattle.fan.proofs.has_end.Statement.{statement}
-use Rattle.fan.proofs.has_end.Tie as tie
+use Rattle.input.proofs.has_end.Statement.{statement}
+use Rattle.input.proofs.has_end.Tie as tie
 
 abbrev Inv-loop : tie.InvT-loop
 Inv-loop text i₀ i = Passed (isEnd text) 0 (length text) i

@@ -17,3 +17,8 @@ isEnd text i = eqb (getD text i 0) 10
 pub record Came (buf : List ℕ) (n : ℕ) (ended : Bool) : Type 0 where
   pub within : n ≤ length buf
   pub enough : ended ≡ false → (any (isEnd buf) 0 n ≡ true) ⊎ (n ≡ mostBytes)
+
+-- the same of the whole input, up to the room for it
+pub record CameAll (buf : List ℕ) (n : ℕ) (ended : Bool) : Type 0 where
+  pub within : n ≤ length buf
+  pub all : ended ≡ false → n ≡ length buf

@@ -1,4 +1,4 @@
--- `fan::read_line` meets its contract: each turn fills more of the buffer, and it stops where a line end has come, the buffer is full or a read gave nothing.
+-- `input::read_line` meets its contract: each turn fills more of the buffer, and it stops where a line end has come, the buffer is full or a read gave nothing.
 -- Assumes nothing.
 use native.Mathlib.Omega.{arith}
 use Prim.Native.Nat.{_-_, _≤_}
@@ -6,10 +6,10 @@ use mathlib.Core.Path.{_≡_, refl, _∙_}
 use mathlib.Core.Logic.{inl, inr}
 use lib.ListN.{length}
 use Rattle.scan.specs.Laws.{true-false}
-use Rattle.fan.specs.Buffers.{read-long, read-within, part-long, end-within}
+use Rattle.input.specs.Buffers.{read-long, read-within, part-long, end-within}
 use borrow.Author.Needs.{needs}
-use Rattle.fan.proofs.read_line.Statement.{statement}
-use Rattle.fan.proofs.read_line.Tie as tie
+use Rattle.input.proofs.read_line.Statement.{statement}
+use Rattle.input.proofs.read_line.Tie as tie
 
 abbrev Inv-loop : tie.InvT-loop
 Inv-loop buf₀ n₀ buf n = (n ≤ length buf) × (length buf ≡ length buf₀)
