@@ -23,7 +23,7 @@ WORDS = {1: b"cube", 2: b"two"}
 NUMBER = rb"(0|[1-9][0-9]*)"
 P = re.compile(rb"p edge " + NUMBER + rb" " + NUMBER)
 E = re.compile(rb"e " + NUMBER + rb" " + NUMBER)
-MOST = 1048576
+MOST = 262144
 LENGTHS = {1: [17, 35, 84, 233, 608, 1496, 3739, 9392, 22084, 50387, 123009], 2: [59, 754, 44741]}
 
 

@@ -219,3 +219,7 @@ module _ (text : List ℕ) (at : ℕ) (h : at < length text) where
   -- the rest of the text, cut out of it
   pub begun : {r : Bool} → r ≡ begins countsWord (take (length text - at) (drop at text)) → r ≡ begins countsWord (drop at text)
   begun e = e ∙ ap (begins countsWord) (take-all (length text - at) (drop at text) (omega (arith, length-drop at text)))
+
+-- the place after a newline lies in the text
+pub skipped-in : (text : List ℕ) (from : ℕ) {r : code-spot.Spot} {e : ℕ} → r ≡ spot.At e → Skipped text from r → e ≤ length text
+skipped-in text from z f = subst (SkipWithin text from) z (f .within) .1

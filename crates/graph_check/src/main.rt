@@ -1,11 +1,11 @@
 // The program `graph_check`: reads a line `cube 3` or `two 2` from standard input, then a DIMACS edge file to the end of the input, and writes `yes` where the file is that mesh with each link once,
-// else `refused N P` with the number and the line. What is no such line is answered `refused 10 0`, an input of more than 1,048,576 bytes `refused 8 0`.
+// else `refused N P` with the number and the line. What is no such line is answered `refused 10 0`, an input of more than 262,144 bytes `refused 8 0`.
 use graph_line::Named;
 use mesh::Mesh;
 use scan::Spot;
 
 // The most bytes of the input, its first line included.
-const MOST: usize = 1048576;
+const MOST: usize = 262144;
 
 // What is said: 0 for yes, or a number and a line.
 struct Said {
@@ -63,7 +63,7 @@ fn say(said: Said) {
 }
 
 fn main() {
-    let mut text = [0u8; 1048577];
+    let mut text = [0u8; 262145];
     let n = input::read_all(&mut text).bytes;
     say(judged(&text[..n]));
 }
