@@ -131,10 +131,14 @@ module _ (k n : ℕ) (text : List ℕ) (from : ℕ) (h : from < length text) {r 
           later = w .0;
           within = w .1;
           long = refl;
-          goes = λ seen q. (seen, record {
-            wrong = λ most line. ap (wrongAt (meshOf k n) seen line) (next-is most e comment (drop next text) refl) ∙ wrong-comment (meshOf k n) seen line (lines most (drop next text));
-            edges = λ most. ap (edgesFrom seen) (next-is most e comment (drop next text) refl) ∙ edges-comment seen (lines most (drop next text));
-          }, q);
+          goes = λ seen q. (
+            seen,
+            record {
+              wrong = λ most line. ap (wrongAt (meshOf k n) seen line) (next-is most e comment (drop next text) refl) ∙ wrong-comment (meshOf k n) seen line (lines most (drop next text));
+              edges = λ most. ap (edgesFrom seen) (next-is most e comment (drop next text) refl) ∙ edges-comment seen (lines most (drop next text));
+            },
+            q,
+          );
         }
 
     pub turn-counts : {a b next : ℕ} → r ≡ pc.Counts a b next → Right k n text from was next was
@@ -144,10 +148,14 @@ module _ (k n : ℕ) (text : List ℕ) (from : ℕ) (h : from < length text) {r 
           later = w .0;
           within = w .1;
           long = refl;
-          goes = λ seen q. (seen, record {
-            wrong = λ most line. ap (wrongAt (meshOf k n) seen line) (next-is most e (counts a b) (drop next text) refl) ∙ wrong-counts (meshOf k n) seen line (lines most (drop next text)) a b;
-            edges = λ most. ap (edgesFrom seen) (next-is most e (counts a b) (drop next text) refl) ∙ edges-counts seen (lines most (drop next text)) a b;
-          }, q);
+          goes = λ seen q. (
+            seen,
+            record {
+              wrong = λ most line. ap (wrongAt (meshOf k n) seen line) (next-is most e (counts a b) (drop next text) refl) ∙ wrong-counts (meshOf k n) seen line (lines most (drop next text)) a b;
+              edges = λ most. ap (edgesFrom seen) (next-is most e (counts a b) (drop next text) refl) ∙ edges-counts seen (lines most (drop next text)) a b;
+            },
+            q,
+          );
         }
 
     pub turn-over : r ≡ pc.Malformed → Ends k n text from was was
@@ -175,10 +183,14 @@ module _ (k n : ℕ) (text : List ℕ) (from : ℕ) (h : from < length text) {r 
             later = w .0;
             within = w .1;
             long = p .long;
-            goes = λ seen q. (edge a b ∷ seen, record {
-              wrong = λ most line. by-mark seen q most line ∙ ap (λ (x : Bool). pick x (wrongAt (meshOf k n) (edge a b ∷ seen) (line + 1) (lines most (drop next text))) (at (line + 1))) z;
-              edges = λ most. ap (edgesFrom seen) (next-is most e (link (edge a b)) (drop next text) refl) ∙ edges-link seen (lines most (drop next text)) (edge a b);
-            }, p .next seen q z);
+            goes = λ seen q. (
+              edge a b ∷ seen,
+              record {
+                wrong = λ most line. by-mark seen q most line ∙ ap (λ (x : Bool). pick x (wrongAt (meshOf k n) (edge a b ∷ seen) (line + 1) (lines most (drop next text))) (at (line + 1))) z;
+                edges = λ most. ap (edgesFrom seen) (next-is most e (link (edge a b)) (drop next text) refl) ∙ edges-link seen (lines most (drop next text)) (edge a b);
+              },
+              p .next seen q z,
+            );
           }
 
       pub turn-wrong : f ≡ false → Fails k n text from was now

@@ -66,7 +66,7 @@ module _ (k n : ℕ) (text : List ℕ) where
   pub yes-means : readOf k n text ≡ Yes → Tells k n text
   yes-means e =
       let (x, f, c, w, b) = split (first (exportFaultsIn (kindOf k) n)) (malformedAt false 0 (linesOf text)) (counted (meshOf k n .relays) (linkCount (meshOf k n)) (linesOf text))
-          (wrongAt (meshOf k n) [] 0 (linesOf text)) (missing (meshOf k n) (edgesOf (linesOf text))) e in
+      (wrongAt (meshOf k n) [] 0 (linesOf text)) (missing (meshOf k n) (edgesOf (linesOf text))) e in
       record { export = x; formed = f; counts = c; mesh = reads-mesh (meshOf k n) (kindOf k .near n) (links-of k n x) (linesOf text) w b }
 
   pub means-yes : Tells k n text → readOf k n text ≡ Yes

@@ -24,10 +24,7 @@ fn checked(mesh: Mesh, file: &[u8]) -> Said {
 
 fn judged(text: &[u8]) -> Said {
     if MOST < text.len() {
-        return Said {
-            number: 8,
-            line: 0,
-        };
+        return Said { number: 8, line: 0 };
     }
     let Named::Of(kind, size) = graph_line::mesh_named(text) else {
         return Said {
