@@ -1,5 +1,6 @@
 -- Which files are read as a mesh.
 pub mod Once
 pub mod Edges
+pub mod Count
 pub mod Texts
 pub mod Trips

@@ -6,7 +6,7 @@ use Rattle.dimacs_marks.proofs.mark.Statement.{statement}
 use Rattle.dimacs_marks.proofs.mark.Tie as tie
 
 mark-up-requires : tie.Need-mark-up-requires
-mark-up-requires c κs = let s = c .before .before .before in (s .pre .0, (s .pre .1, c .before .if1 .taken))
+mark-up-requires c κs = let s = c .before .before .before in (s .pre .0, (s .pre .1, omega (arith, c .before .if1 .taken)))
 
 same-length : tie.Need-same-length
 same-length c = c .before .before .mark-up .ensures .long
@@ -15,7 +15,7 @@ returns : tie.Need-returns
 returns c = c .before .before .mark-up .ensures
 
 mark-up-requires-2 : tie.Need-mark-up-requires-2
-mark-up-requires-2 c κs = let s = c .before .before .before .before in (s .pre .0, (s .pre .1, c .before .if2 .taken))
+mark-up-requires-2 c κs = let s = c .before .before .before .before in (s .pre .0, (s .pre .1, omega (arith, c .before .if2 .taken)))
 
 same-length-2 : tie.Need-same-length-2
 same-length-2 c = c .before .before .mark-up2 .ensures .long
