@@ -82,11 +82,12 @@ module _ (text : List ℕ) (from : ℕ) (headed : Bool) (n m : ℕ) {r : code-st
   pub as-stops : r ≡ stp.Bad → Stepped text from headed n m r → Stops text from headed
   as-stops e s = subst (Stepped text from headed n m) e s
 
-module _ (text : List ℕ) (from : ℕ) (n m : ℕ) (h : from < length text) {r : code-piece.Piece} (t : Taken text from r (lineAt (drop from text))) where
-  -- the line that is taken is the next one
-  next-is : (most : ℕ) {p : code-piece.Piece} → r ≡ p → (x : Line) (rest : List ℕ) → pieceTold text p ≡ piece x rest → lines (suc most) (drop from text) ≡ x ∷ lines most rest
-  next-is most e x rest z = lines-piece text from most h x rest (sym z ∙ sym (ap (pieceTold text) e) ∙ t .same)
+-- the line that is taken is the next one
+pub next-is : (text : List ℕ) (from : ℕ) → from < length text → {r : code-piece.Piece} → Taken text from r (lineAt (drop from text)) → (most : ℕ) {p : code-piece.Piece} → r ≡ p → (x : Line) (rest : List ℕ) → pieceTold text p ≡ piece x rest
+    → lines (suc most) (drop from text) ≡ x ∷ lines most rest
+next-is text from h t most e x rest z = lines-piece text from most h x rest (sym z ∙ sym (ap (pieceTold text) e) ∙ t .same)
 
+module _ (text : List ℕ) (from : ℕ) (n m : ℕ) (h : from < length text) {r : code-piece.Piece} (t : Taken text from r (lineAt (drop from text))) where
   module _ (headed : Bool) where
     pub step-comment : {next : ℕ} → r ≡ pc.Comment next → Onward text from headed n m next headed n m
     step-comment {next} e =
@@ -94,8 +95,8 @@ module _ (text : List ℕ) (from : ℕ) (n m : ℕ) (h : from < length text) {r 
         record {
           later = w .0;
           within = w .1;
-          bad = λ most k. ap (malformedAt headed k) (next-is most e comment (drop next text) refl) ∙ bad-comment headed k (lines most (drop next text));
-          told = λ most relays links. ap (tells headed n m relays links) (next-is most e comment (drop next text) refl) ∙ ap (pick headed (eqb n relays && eqb m links)) (told-comment relays links (lines most (drop next text)));
+          bad = λ most k. ap (malformedAt headed k) (next-is text from h t most e comment (drop next text) refl) ∙ bad-comment headed k (lines most (drop next text));
+          told = λ most relays links. ap (tells headed n m relays links) (next-is text from h t most e comment (drop next text) refl) ∙ ap (pick headed (eqb n relays && eqb m links)) (told-comment relays links (lines most (drop next text)));
         }
 
     pub step-broken : r ≡ pc.Malformed → Stops text from headed
@@ -106,7 +107,7 @@ module _ (text : List ℕ) (from : ℕ) (n m : ℕ) (h : from < length text) {r 
     pub step-again : {a b next : ℕ} → r ≡ pc.Counts a b next → headed ≡ true → Stops text from headed
     step-again {a} {b} {next} e z = record {
       bad = λ most k.
-          ap (malformedAt headed k) (next-is most e (counts a b) (drop next text) refl) ∙ bad-counts headed k (lines most (drop next text)) a b
+          ap (malformedAt headed k) (next-is text from h t most e (counts a b) (drop next text) refl) ∙ bad-counts headed k (lines most (drop next text)) a b
           ∙ ap (λ (x : Bool). pick x (at (k + 1)) (malformedAt true (k + 1) (lines most (drop next text)))) z;
     }
 
@@ -117,10 +118,10 @@ module _ (text : List ℕ) (from : ℕ) (n m : ℕ) (h : from < length text) {r 
           later = w .0;
           within = w .1;
           bad = λ most k.
-              ap (malformedAt headed k) (next-is most e (counts a b) (drop next text) refl) ∙ bad-counts headed k (lines most (drop next text)) a b
+              ap (malformedAt headed k) (next-is text from h t most e (counts a b) (drop next text) refl) ∙ bad-counts headed k (lines most (drop next text)) a b
               ∙ ap (λ (x : Bool). pick x (at (k + 1)) (malformedAt true (k + 1) (lines most (drop next text)))) z;
           told = λ most relays links.
-              ap (tells headed n m relays links) (next-is most e (counts a b) (drop next text) refl)
+              ap (tells headed n m relays links) (next-is text from h t most e (counts a b) (drop next text) refl)
               ∙ ap (λ (x : Bool). pick x (eqb n relays && eqb m links) (counted relays links (counts a b ∷ lines most (drop next text)))) z
               ∙ told-counts relays links (lines most (drop next text)) a b;
         }
@@ -132,10 +133,10 @@ module _ (text : List ℕ) (from : ℕ) (n m : ℕ) (h : from < length text) {r 
           later = w .0;
           within = w .1;
           bad = λ most k.
-              ap (malformedAt headed k) (next-is most e (link (edge a b)) (drop next text) refl) ∙ bad-link headed k (lines most (drop next text)) (edge a b)
+              ap (malformedAt headed k) (next-is text from h t most e (link (edge a b)) (drop next text) refl) ∙ bad-link headed k (lines most (drop next text)) (edge a b)
               ∙ ap (λ (x : Bool). pick x (malformedAt headed (k + 1) (lines most (drop next text))) (at (k + 1))) z;
           told = λ most relays links.
-              ap (tells headed n m relays links) (next-is most e (link (edge a b)) (drop next text) refl)
+              ap (tells headed n m relays links) (next-is text from h t most e (link (edge a b)) (drop next text) refl)
               ∙ ap (λ (x : Bool). pick x (eqb n relays && eqb m links) (counted relays links (link (edge a b) ∷ lines most (drop next text)))) z
               ∙ ap (λ (x : Bool). pick x (eqb n relays && eqb m links) (counted relays links (lines most (drop next text)))) (sym z);
         }
@@ -143,7 +144,7 @@ module _ (text : List ℕ) (from : ℕ) (n m : ℕ) (h : from < length text) {r 
     pub step-early : {a b next : ℕ} → r ≡ pc.Link a b next → headed ≡ false → Stops text from headed
     step-early {a} {b} {next} e z = record {
       bad = λ most k.
-          ap (malformedAt headed k) (next-is most e (link (edge a b)) (drop next text) refl) ∙ bad-link headed k (lines most (drop next text)) (edge a b)
+          ap (malformedAt headed k) (next-is text from h t most e (link (edge a b)) (drop next text) refl) ∙ bad-link headed k (lines most (drop next text)) (edge a b)
           ∙ ap (λ (x : Bool). pick x (malformedAt headed (k + 1) (lines most (drop next text))) (at (k + 1))) z;
     }
 

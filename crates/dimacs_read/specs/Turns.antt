@@ -20,9 +20,9 @@ use Rattle.answers.specs.declared.Refusal.{Refusal}
 use Rattle.paths.specs.Mesh.{Mesh}
 use Rattle.mesh.specs.Kinds.{kindOf, meshOf}
 use Rattle.dimacs.specs.Text.{Edge, edge, linkCount}
-use Rattle.dimacs.specs.Parse.{Line, comment, counts, link, malformed, Piece, piece, lineAt, lines, linesOf}
+use Rattle.dimacs.specs.Parse.{Line, comment, counts, link, malformed, lineAt, lines, linesOf}
 use Rattle.dimacs.specs.Says.{exportFaultsIn, malformedAt, counted, isLink, stands, wrongAt, edgesFrom, edgesOf, missing, orMalformed, orWrong, orRefused, judged, readOf}
-use Rattle.dimacs.specs.Lines.{lines-all, lines-end, lines-piece, lines-broken}
+use Rattle.dimacs.specs.Lines.{lines-all, lines-end, lines-broken}
 use Rattle.dimacs.specs.Needs.{Exported, export-fine}
 use Rattle.dimacs.specs.declared.Verdict.{Verdict}
 use Rattle.dimacs.specs.declared.Verdict.the-variants as verdict
@@ -31,7 +31,7 @@ use Rattle.dimacs_marks.specs.Marks.{Marked, Marks, marked-none, lacksAny, lack
 use Rattle.dimacs_take.specs.Takes.{Taken, TakenWithin, pieceTold}
 use Rattle.dimacs_take.specs.declared.Piece as code-piece
 use Rattle.dimacs_take.specs.declared.Piece.the-variants as pc
-use Rattle.dimacs_read.specs.Forms.{Formed, one-less}
+use Rattle.dimacs_read.specs.Forms.{Formed, next-is, one-less}
 use Rattle.dimacs_read.specs.declared.form.Form as code-form
 use Rattle.dimacs_read.specs.declared.form.Form.the-variants as frm
 use Rattle.dimacs_read.specs.declared.links.Turn as code-turn
@@ -120,9 +120,6 @@ module _ (k n : ℕ) (text : List ℕ) (from : ℕ) (was now : List ℕ) {r : co
   as-ends e s = subst (λ (x : code-turn.Turn). Turned k n text from was x now) e s
 
 module _ (k n : ℕ) (text : List ℕ) (from : ℕ) (h : from < length text) {r : code-piece.Piece} (t : Taken text from r (lineAt (drop from text))) where
-  next-is : (most : ℕ) {p : code-piece.Piece} → r ≡ p → (x : Line) (rest : List ℕ) → pieceTold text p ≡ piece x rest → lines (suc most) (drop from text) ≡ x ∷ lines most rest
-  next-is most e x rest z = lines-piece text from most h x rest (sym z ∙ sym (ap (pieceTold text) e) ∙ t .same)
-
   module _ (was : List ℕ) where
     pub turn-comment : {next : ℕ} → r ≡ pc.Comment next → Right k n text from was next was
     turn-comment {next} e =
@@ -134,8 +131,8 @@ module _ (k n : ℕ) (text : List ℕ) (from : ℕ) (h : from < length text) {r 
           goes = λ seen q. (
             seen,
             record {
-              wrong = λ most line. ap (wrongAt (meshOf k n) seen line) (next-is most e comment (drop next text) refl) ∙ wrong-comment (meshOf k n) seen line (lines most (drop next text));
-              edges = λ most. ap (edgesFrom seen) (next-is most e comment (drop next text) refl) ∙ edges-comment seen (lines most (drop next text));
+              wrong = λ most line. ap (wrongAt (meshOf k n) seen line) (next-is text from h t most e comment (drop next text) refl) ∙ wrong-comment (meshOf k n) seen line (lines most (drop next text));
+              edges = λ most. ap (edgesFrom seen) (next-is text from h t most e comment (drop next text) refl) ∙ edges-comment seen (lines most (drop next text));
             },
             q,
           );
@@ -151,8 +148,8 @@ module _ (k n : ℕ) (text : List ℕ) (from : ℕ) (h : from < length text) {r 
           goes = λ seen q. (
             seen,
             record {
-              wrong = λ most line. ap (wrongAt (meshOf k n) seen line) (next-is most e (counts a b) (drop next text) refl) ∙ wrong-counts (meshOf k n) seen line (lines most (drop next text)) a b;
-              edges = λ most. ap (edgesFrom seen) (next-is most e (counts a b) (drop next text) refl) ∙ edges-counts seen (lines most (drop next text)) a b;
+              wrong = λ most line. ap (wrongAt (meshOf k n) seen line) (next-is text from h t most e (counts a b) (drop next text) refl) ∙ wrong-counts (meshOf k n) seen line (lines most (drop next text)) a b;
+              edges = λ most. ap (edgesFrom seen) (next-is text from h t most e (counts a b) (drop next text) refl) ∙ edges-counts seen (lines most (drop next text)) a b;
             },
             q,
           );
@@ -172,7 +169,7 @@ module _ (k n : ℕ) (text : List ℕ) (from : ℕ) (h : from < length text) {r 
       by-mark : (seen : List Edge) → Marked k n was seen → (most line : ℕ)
           → wrongAt (meshOf k n) seen line (lines (suc most) (drop from text)) ≡ pick f (wrongAt (meshOf k n) (edge a b ∷ seen) (line + 1) (lines most (drop next text))) (at (line + 1))
       by-mark seen q most line =
-          ap (wrongAt (meshOf k n) seen line) (next-is most e (link (edge a b)) (drop next text) refl)
+          ap (wrongAt (meshOf k n) seen line) (next-is text from h t most e (link (edge a b)) (drop next text) refl)
           ∙ wrong-link (meshOf k n) seen line (lines most (drop next text)) a b
           ∙ ap (λ (x : Bool). pick x (wrongAt (meshOf k n) (edge a b ∷ seen) (line + 1) (lines most (drop next text))) (at (line + 1))) (sym (p .says seen q))
 
@@ -187,7 +184,7 @@ module _ (k n : ℕ) (text : List ℕ) (from : ℕ) (h : from < length text) {r 
               edge a b ∷ seen,
               record {
                 wrong = λ most line. by-mark seen q most line ∙ ap (λ (x : Bool). pick x (wrongAt (meshOf k n) (edge a b ∷ seen) (line + 1) (lines most (drop next text))) (at (line + 1))) z;
-                edges = λ most. ap (edgesFrom seen) (next-is most e (link (edge a b)) (drop next text) refl) ∙ edges-link seen (lines most (drop next text)) (edge a b);
+                edges = λ most. ap (edgesFrom seen) (next-is text from h t most e (link (edge a b)) (drop next text) refl) ∙ edges-link seen (lines most (drop next text)) (edge a b);
               },
               p .next seen q z,
             );

@@ -3,4 +3,5 @@ pub mod Once
 pub mod Edges
 pub mod Count
 pub mod Texts
+pub mod Spelt
 pub mod Trips

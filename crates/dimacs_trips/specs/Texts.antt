@@ -22,7 +22,7 @@ use Rattle.dimacs.specs.Edges.{all-true, times-none, times-on, times-off}
 -- ---- one line
 
 module _ (a b : ℕ) (rest : List ℕ) where
-  pair-bytes : (spaced (a ∷ b ∷ []) ++ lineEnd) ++ rest ≡ 32 ∷ (digits a ++ (32 ∷ (digits b ++ (10 ∷ rest))))
+  pub pair-bytes : (spaced (a ∷ b ∷ []) ++ lineEnd) ++ rest ≡ 32 ∷ (digits a ++ (32 ∷ (digits b ++ (10 ∷ rest))))
   unfolding spaced
   pair-bytes =
       append-assoc (32 ∷ (digits a ++ (32 ∷ (digits b ++ [])))) lineEnd rest
