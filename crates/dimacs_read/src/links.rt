@@ -21,7 +21,7 @@ enum Turn {
     Over,
 }
 
-// One line.
+// One line, and its link marked.
 fn take(mesh: Mesh, relays: u64, links: u64, text: &[u8], at: usize, marks: &mut [u16]) -> Turn
     requires { ⌜ Rows (mesh .kind) (mesh .size) relays links ⌝ }
     requires { ⌜ (length (now marks) ≡ 2048) × (at < length (now text)) ⌝ }
