@@ -77,6 +77,11 @@ enum {
   GUST_SOURCE_STOPPED = 43,  /* the source has stopped */
   GUST_TARGET_STOPPED = 44,  /* the target has stopped */
   GUST_NO_PATH = 45,         /* no path of running relays joins the two */
+  GUST_TOO_LARGE = 46,       /* a size that is too large for export */
+  GUST_MALFORMED = 47,       /* a line of a graph file is malformed; the place is its number, from 1 */
+  GUST_WRONG_COUNTS = 48,    /* a graph file has no `p` line, or one with other counts */
+  GUST_WRONG_LINK = 49,      /* a line of a graph file is no link, or is repeated; the place is its number, from 1 */
+  GUST_LINKS_MISSING = 50,   /* links are missing in a graph file */
   /* Kinds of mesh: */
   GUST_NOT_SERVED = 52       /* the routine does not serve this kind */
 };
@@ -194,6 +199,25 @@ GustReading gust_read_sheet(const uint8_t *bytes, size_t bytes_len, uint64_t *pl
  * a.value is 6, and out begins with 0 2 3 7 6 4 5. */
 GustAnswer gust_way_round(uint64_t kind, uint64_t size, uint64_t source, uint64_t target, const uint64_t *stopped, size_t stopped_len, uint64_t *room,
                           size_t room_len, uint64_t *out, size_t out_len);
+
+/* ---- a mesh for tools that read graphs */
+
+/* Writes a mesh as a DIMACS edge file: a line `p edge N M` with the counts of relays and links, then a line `e U V` for each link, the lower relay first, ordered by the lower and then the
+ * higher; relays are numbered from 1, one above their numbers here. Each line ends with a newline. The value is how many bytes that is; bytes after them stay as they were. For cubes of 1 to 11
+ * dimensions and the two-level mesh of orders 1 to 3: 123,009 bytes are enough for each. Numbers, in this order: 1, 52, 46 for cubes of 12 dimensions or more and orders 4 and 5, 8 exactly where
+ * `out_len` is below the length of the text.
+ *
+ *     uint8_t out[35];
+ *     GustAnswer a = gust_write_graph(GUST_CUBE, 2, out, 35);
+ *
+ * a.value is 35, and out holds p edge 4 4, e 1 2, e 1 3, e 2 4 and e 3 4, each with a newline. */
+GustAnswer gust_write_graph(uint64_t kind, uint64_t size, uint8_t *out, size_t out_len);
+
+/* Reads a DIMACS edge file, and tells 0 exactly where it is that mesh with each link once. Lines whose first byte is `c` are comments, whatever follows; `e` lines may come in any order and either
+ * direction. Every other line is exactly `p edge N M` or `e U V`, with single spaces and decimal numbers below 2^64 without leading zeros. Numbers, in this order: 1, 52, 46; 47 with the first line
+ * that is malformed, from 1, as the place (an empty line, a carriage return, a second `p`, an `e` before it, and bytes after the last newline are malformed); 48 where there is no `p` line or its
+ * counts are others; 49 with the first `e` line that is no link or stands before in either direction; 50 where links are missing. It lends no room, and takes 4 KB of stack for marks. */
+GustVerdict gust_read_graph(uint64_t kind, uint64_t size, const uint8_t *text, size_t text_len);
 
 /* ---- frames that come in several copies */
 

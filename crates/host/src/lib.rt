@@ -1,12 +1,15 @@
 // The library for programs in C and C++: every routine as an exported function over numbers and slices. include/gustparsley.h declares them.
 mod calls;
 mod frames;
+mod graphs;
 mod routines;
 mod ways;
 
 pub use calls::gust_next_hop;
 pub use calls::gust_plan;
 pub use frames::gust_arrive;
+pub use graphs::gust_read_graph;
+pub use graphs::gust_write_graph;
 pub use routines::gust_bundle;
 pub use routines::gust_bundle_survivors;
 pub use routines::gust_distance;
