@@ -6,10 +6,11 @@ use mathlib.Core.Bool.{Bool, true, false}
 use mathlib.Core.List.{List, [], _∷_, _++_}
 use native.Mathlib.Omega.{arith}
 use lib.ListN.{length, getD, drop, length-append, replicate, length-replicate}
+use borrow.Author.Tests.{eq-eqb}
 use Rattle.scan.specs.Scan.{pick}
 use Rattle.octets.specs.Big.{big, big-length}
 use Rattle.paths.specs.Fan.{filler}
-use Rattle.sheet.specs.Format.{fields, zoned, head, zoneBytes, relaysBytes, pathBytes, pathsBytes, bodyOf, sheetOf, pathsFrom, HEAD, relaysAt, after, pathsAt, zonesAt, row, countsOf, targetsOf}
+use Rattle.sheet.specs.Format.{ZONED, fields, zoned, head, zoneBytes, relaysBytes, pathBytes, pathsBytes, bodyOf, sheetOf, pathsFrom, HEAD, relaysAt, after, pathsAt, zonesAt, row, countsOf, targetsOf}
 
 pub relays-length : (l : List ℕ) → length (relaysBytes l) ≡ length l * 8
 unfolding relaysBytes
@@ -30,6 +31,10 @@ head-bounds v = go (zoned v)
     go : (b : Bool) → (2 ≤ pick b 6 2) × (pick b 6 2 ≤ 6)
     go true = (omega arith, omega arith)
     go false = (omega arith, omega arith)
+
+-- with a zone it has six
+pub head-zoned : {v : ℕ} → v ≡ ZONED → head v ≡ 6
+head-zoned {v} e = ap (λ (b : Bool). pick {A = ℕ} b 6 2) (eq-eqb v ZONED e)
 
 pub path-length : (v zone : ℕ) (p : List ℕ) → length (pathBytes v zone p) ≡ head v + length p * 8
 unfolding pathBytes

@@ -1,25 +1,21 @@
 -- `sheet_take::zone_at` meets its contract: one test, as in the definition. Assumes nothing.
-use Prim.Native.Nat.{ℕ, _+_, _≤_}
-use mathlib.Core.Path.{_≡_, sym, ap, _∙_, subst}
-use mathlib.Core.Bool.{Bool, true}
+use Prim.Native.Nat.{ℕ, _+_}
+use mathlib.Core.Path.{sym, ap, _∙_}
+use mathlib.Core.Bool.{Bool}
 use native.Mathlib.Omega.{arith}
 use borrow.Author.Needs.{needs}
 use borrow.Author.Tests.{eq-eqb, ne-eqb}
-use lib.Dec.{eqb}
 use Rattle.scan.specs.Scan.{pick}
 use Rattle.octets.specs.Big.{number, number-below}
+use Rattle.sheet.specs.Lengths.{head-zoned}
 use Rattle.sheet_take.proofs.zone_at.Statement.{statement}
 use Rattle.sheet_take.proofs.zone_at.Tie as tie
-
--- a path of version 2 has six bytes before its relays
-six : {v : ℕ} → v ≡ 2 → pick {A = ℕ} (eqb v 2) 6 2 ≡ 6
-six {v} e = ap (λ (b : Bool). pick {A = ℕ} b 6 2) (eq-eqb v 2 e)
 
 add-number : tie.Need-add-number
 add-number c = search needs
 
 number-requires : tie.Need-number-requires
-number-requires c κs = (omega (arith, c .before .before .pre, six (c .if1 .taken)), omega arith)
+number-requires c κs = (omega (arith, c .before .before .pre, head-zoned (c .if1 .taken)), omega arith)
 
 cast-result : tie.Need-cast-result
 cast-result c = let a = c .before .before .before .args in omega (arith, c .number .ensures, number-below (a .bytes .now) (λ i. c .before .before .shared-slice-known .given i .fits) (a .at + 2) 4)
