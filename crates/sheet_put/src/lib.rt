@@ -6,7 +6,10 @@ ghost use lib.Seq.{sets};
 ghost use Rattle.paths.specs.Lists.{ahead};
 ghost use Rattle.sheet.specs.Format.{head, zoneBytes, relaysBytes, pathBytes, pathsBytes, pathsOf};
 ghost use Rattle.sheet_put.specs.Needs.{Headed, Paths};
+ghost use Rattle.scan.specs.Scan.{spotOf};
+ghost use Rattle.sheet_put.specs.Stray.{strayAt, strayIn};
 ghost use Rattle.sheet_put.specs.Total.{total};
+use scan::Spot;
 
 // Writes n numbers of a list, from the place `from` of it on, 8 bytes each, at the place `at`.
 fn put_relays(places: &[u64], from: usize, n: usize, at: usize, out: &mut [u8])
@@ -96,4 +99,28 @@ pub fn bytes_of(version: u64, counts: &[u64], k: usize) -> usize
         i += 1;
     }
     n
+}
+
+// The first of k paths with a zone that is not 0.
+fn first_zone(zones: &[u32], k: usize) -> Spot
+    ensures { λ r. ⌜ spotOf r ≡ strayAt (now (zones .entry)) k ⌝ }
+{
+    let mut i: usize = 0;
+    while i < k {
+        if zone_of(zones, i) != 0 {
+            return Spot::At(i);
+        }
+        i += 1;
+    }
+    Spot::Nowhere
+}
+
+// The same where the version has no place for it; nowhere in version 2.
+pub fn stray(version: u64, zones: &[u32], k: usize) -> Spot
+    ensures { λ r. ⌜ spotOf r ≡ strayIn version (now (zones .entry)) k ⌝ }
+{
+    if version == 2 {
+        return Spot::Nowhere;
+    }
+    first_zone(zones, k)
 }

@@ -130,7 +130,7 @@ fn read_in(
 
 // Reads one sheet of either version: what `read` does, with the zones of the paths besides, which are 0 in version 1, and gives the version too. Refuses in the
 // same order: with 31 any version but 1 and 2, and with 8 too few zones as well, of version 1 too; and then changes nothing.
-pub fn read_either(
+pub fn read_zoned(
     bytes: &[u8],
     places: &mut [u64],
     counts: &mut [u64],

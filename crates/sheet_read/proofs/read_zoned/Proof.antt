@@ -1,10 +1,10 @@
--- `sheet_read::read_either` meets its contract: the sheet's own version is read, and told. Assumes nothing.
+-- `sheet_read::read_zoned` meets its contract: the sheet's own version is read, and told. Assumes nothing.
 use Rattle.sheet_read.specs.Zoned.{either-read}
 use borrow.Author.Needs.{needs}
-use Rattle.sheet_read.proofs.read_either.Statement.{statement}
-use Rattle.sheet_read.proofs.read_either.Tie as tie
-use Rattle.sheet_read.proofs.read_either.Reads as reads
-use Rattle.sheet_read.proofs.read_either.Lts as lts
+use Rattle.sheet_read.proofs.read_zoned.Statement.{statement}
+use Rattle.sheet_read.proofs.read_zoned.Tie as tie
+use Rattle.sheet_read.proofs.read_zoned.Reads as reads
+use Rattle.sheet_read.proofs.read_zoned.Lts as lts
 use Rattle.sheet.proofs.with_version.Reads as with-version-reads
 use Rattle.sheet_check.proofs.version_of.Reads as version-of-reads
 use Rattle.sheet_read.proofs.read_in.Reads as read-in-reads
@@ -33,8 +33,8 @@ same-length-4 c = search needs
 returns : tie.Need-returns
 returns c = either-read (c .before .before .before .before .before .before .before .before .before .before .before .before .before .before .version-of .ensures) (c .before .before .before .before .before .before .before .before .before .read-in .ensures) (c .with-version .ensures)
 
-pub read-either-spec : {M : Type 1} → statement M
-read-either-spec =
+pub read-zoned-spec : {M : Type 1} → statement M
+read-zoned-spec =
     tie.close
     (tie.spec
     version-of-requires
