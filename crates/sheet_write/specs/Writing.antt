@@ -61,7 +61,7 @@ judged-sheeted kind size s targets places counts p j =
     }
 
 -- what the judge accepts it accepts where nothing is lacking
-judged-roomy : (lacking : Bool) (kind size s : ℕ) (targets places counts : List ℕ) → numberOf (judgeTold (kindOf kind) size s targets places counts lacking) ≡ 0
+pub judged-roomy : (lacking : Bool) (kind size s : ℕ) (targets places counts : List ℕ) → numberOf (judgeTold (kindOf kind) size s targets places counts lacking) ≡ 0
     → (lacking ≡ false) × (numberOf (judgeTold (kindOf kind) size s targets places counts false) ≡ 0)
 judged-roomy false kind size s targets places counts e = (refl, e)
 judged-roomy true kind size s targets places counts e =
