@@ -20,7 +20,7 @@ use Rattle.sheet_check.specs.Says.{sheetTold}
 use Rattle.sheet_read.specs.Says.{readsAgainst, Read, zonesAgainst, ReadEither}
 use Rattle.sheet_move.specs.Says.{movedBytes, movesAgainst, Moved}
 use Rattle.judge.specs.Says.{Asked}
-use Rattle.survivors.specs.Says.{survivorsTold, Survived}
+use Rattle.survivors.specs.Says.{survivorsTold, wantingOf, SurvivedZoned}
 use Rattle.survivors.specs.declared.Tally.{Tally}
 use Rattle.shapes.specs.Shapes.{answerIn, tallyIn, writtenIn, readingIn, versionedIn}
 use Rattle.shapes.specs.declared.GustAnswer.{GustAnswer}
@@ -33,10 +33,10 @@ pub record PlannedIn (o : Option Refusal) (k w : ℕ) (P : (places counts : List
   pub answer : Checked
   pub left : PlannedAs o k w P places counts answer places₁ counts₁
 
-pub record SurvivedIn (q : Asked) (places counts : List ℕ) (fails : Failed) (ends hops wholes : List ℕ) (r : GustAnswer) (ends₁ hops₁ wholes₁ : List ℕ) : Type 0 where
-  pub told : r ≡ tallyIn (survivorsTold q places counts fails ends hops wholes)
+pub record SurvivedIn (q : Asked) (places counts zones : List ℕ) (fails : Failed) (ends hops wholes sites : List ℕ) (r : GustAnswer) (ends₁ hops₁ wholes₁ sites₁ : List ℕ) : Type 0 where
+  pub told : r ≡ tallyIn (survivorsTold (wantingOf q places counts zones fails ends hops wholes sites) q places counts fails ends hops wholes)
   pub tally : Tally
-  pub left : Survived q places counts fails ends hops wholes tally ends₁ hops₁ wholes₁
+  pub left : SurvivedZoned q places counts zones fails ends hops wholes sites tally ends₁ hops₁ wholes₁ sites₁
 
 pub record WroteIn (kind size s : ℕ) (targets places counts out : List ℕ) (r : GustAnswer) (out₁ : List ℕ) : Type 0 where
   pub told : r ≡ writtenIn (tellWritten (writeAgainst kind size s targets places counts out) (length (sheet kind size s targets places counts out)))

@@ -22,14 +22,16 @@ module _ {o : Option Refusal} {k w : ℕ} {P : (places counts : List ℕ) → Ty
       let y = b .left .refused why e in
       (x .0 ∙ sym (y .0), x .1 ∙ sym (y .1))
 
-pub survived-in-unique : {q : Asked} {places counts : List ℕ} {fails : Failed} {ends hops wholes : List ℕ} {r p : GustAnswer} {ends₁ hops₁ wholes₁ ends₂ hops₂ wholes₂ : List ℕ}
-    → SurvivedIn q places counts fails ends hops wholes r ends₁ hops₁ wholes₁ → SurvivedIn q places counts fails ends hops wholes p ends₂ hops₂ wholes₂
-    → (r ≡ p) × (ends₁ ≡ ends₂) × (hops₁ ≡ hops₂) × (wholes₁ ≡ wholes₂)
+pub survived-in-unique : {q : Asked} {places counts zones : List ℕ} {fails : Failed} {ends hops wholes sites : List ℕ} {r p : GustAnswer}
+    {ends₁ hops₁ wholes₁ sites₁ ends₂ hops₂ wholes₂ sites₂ : List ℕ} → SurvivedIn q places counts zones fails ends hops wholes sites r ends₁ hops₁ wholes₁ sites₁
+    → SurvivedIn q places counts zones fails ends hops wholes sites p ends₂ hops₂ wholes₂ sites₂
+    → (r ≡ p) × (ends₁ ≡ ends₂) × (hops₁ ≡ hops₂) × (wholes₁ ≡ wholes₂) × (sites₁ ≡ sites₂)
 survived-in-unique a b = (
   a .told ∙ sym (b .told),
-  a .left .ended ∙ sym (b .left .ended),
-  a .left .hopped ∙ sym (b .left .hopped),
-  a .left .marked ∙ sym (b .left .marked),
+  a .left .survived .ended ∙ sym (b .left .survived .ended),
+  a .left .survived .hopped ∙ sym (b .left .survived .hopped),
+  a .left .survived .marked ∙ sym (b .left .survived .marked),
+  a .left .zoned ∙ sym (b .left .zoned),
 )
 
 pub wrote-in-unique : {kind size s : ℕ} {targets places counts out : List ℕ} {r q : GustAnswer} {out₁ out₂ : List ℕ}
