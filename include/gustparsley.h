@@ -154,20 +154,22 @@ GustVerdict gust_judge_bundle(uint64_t kind, uint64_t size, uint64_t source, uin
 
 /* Of a fan, which paths are whole: those on which no relay is in `stopped` and no two neighbouring relays are a pair of `cuts`, in either order. Pair j of `cuts` is
  * cuts[2j] and cuts[2j + 1]; a last number without a partner, and a pair that is no link, do nothing; with cuts_len 0 nothing is cut. Writes for path i its target to
- * ends[i], its hops to hops[i], and 1 to wholes[i] where it is whole, else 0; elements from k on stay as they were. The value is how many are whole: with the source
+ * ends[i], its hops to hops[i], 1 to wholes[i] where it is whole, else 0, and zones[i] to out_zones[i]; elements from k on stay as they were. The value is how many are whole: with the source
  * not stopped k - f at least, where f is how many different relays have stopped and different links are cut. Numbers, in this order: 1 to 7; 8 where there are fewer
- * than k * W places, k counts or k of ends, hops or wholes; then 20 to 25.
- * Changed: `cuts` and `cuts_len` are new, here and in gust_bundle_survivors; with any pointer that is not null and 0 they answer as before. */
+ * than k * W places, k counts, k zones or k of ends, hops, wholes or out_zones; then 20 to 25.
+ * Changed: `zones`, `zones_len` and `out_zones`, `out_zones_len` are new, here and in gust_bundle_survivors: the build zone of each path, of 32 bits. */
 GustAnswer gust_survivors(uint64_t kind, uint64_t size, uint64_t source, const uint64_t *targets, size_t targets_len, const uint64_t *places,
-                          size_t places_len, const uint64_t *counts, size_t counts_len, const uint64_t *stopped, size_t stopped_len, const uint64_t *cuts,
-                          size_t cuts_len, uint64_t *ends, size_t ends_len, uint64_t *hops, size_t hops_len, uint64_t *wholes, size_t wholes_len);
+                          size_t places_len, const uint64_t *counts, size_t counts_len, const uint32_t *zones, size_t zones_len, const uint64_t *stopped, size_t stopped_len,
+                          const uint64_t *cuts, size_t cuts_len, uint64_t *ends, size_t ends_len, uint64_t *hops, size_t hops_len, uint64_t *wholes, size_t wholes_len,
+                          uint32_t *out_zones, size_t out_zones_len);
 
 /* The same of a bundle: ends[i] is the target for every path. With neither end stopped, links - f paths at least are whole, f as above; where an end has stopped none
- * is. Numbers, in this order: 1, 52, 2, 5, 6; 8 as gust_bundle, or where there are fewer than links of ends, hops or wholes; then
+ * is. Numbers, in this order: 1, 52, 2, 5, 6; 8 as gust_bundle, or where there are fewer than links of zones, ends, hops, wholes or out_zones; then
  * 20 to 25. */
 GustAnswer gust_bundle_survivors(uint64_t kind, uint64_t size, uint64_t source, uint64_t target, const uint64_t *places, size_t places_len,
-                                 const uint64_t *counts, size_t counts_len, const uint64_t *stopped, size_t stopped_len, const uint64_t *cuts, size_t cuts_len,
-                                 uint64_t *ends, size_t ends_len, uint64_t *hops, size_t hops_len, uint64_t *wholes, size_t wholes_len);
+                                 const uint64_t *counts, size_t counts_len, const uint32_t *zones, size_t zones_len, const uint64_t *stopped, size_t stopped_len,
+                                 const uint64_t *cuts, size_t cuts_len, uint64_t *ends, size_t ends_len, uint64_t *hops, size_t hops_len, uint64_t *wholes, size_t wholes_len,
+                                 uint32_t *out_zones, size_t out_zones_len);
 
 /* Writes the sheet of a fan at the start of `out`; the value is its length in bytes. Bytes after it stay as they were. Numbers: 37 for kind 2 and a single
  * target, whatever else is asked; 35 of a mesh that has no sheets, and where the judge tells a number but 8; 8 where it tells 8, or where `out_len` is below the
