@@ -175,8 +175,9 @@ void survivors(Mesh &m, const char *call, double bar) {
   m.row(call, "C++ by bits", bar,
         [=](Case &c) {
           static uint64_t none[2];
-          out.targets[0] = gust_survivors(kind, size, c.source, c.targets.data(), k, c.places.data(), c.places.size(), c.counts.data(), k, stopped->data(),
-                                          stopped->size(), none, 0, out.ends, 32, out.hops, 32, out.wholes, 32)
+          static uint32_t zones[32], sites[32];
+          out.targets[0] = gust_survivors(kind, size, c.source, c.targets.data(), k, c.places.data(), c.places.size(), c.counts.data(), k, zones, 32, stopped->data(),
+                                          stopped->size(), none, 0, out.ends, 32, out.hops, 32, out.wholes, 32, sites, 32)
                                .value;
         },
         [=](Case &c) {
@@ -190,8 +191,9 @@ void bundle_survivors(Mesh &m) {
   m.row("bundle_survivors, 3 stopped", "C++ by bits", 0,
         [=](Case &c) {
           static uint64_t none[2];
-          out.targets[0] = gust_bundle_survivors(kind, size, c.source, c.target, c.bundle.data(), c.bundle.size(), c.bundle_counts.data(), k, stopped->data(),
-                                                 stopped->size(), none, 0, out.ends, 32, out.hops, 32, out.wholes, 32)
+          static uint32_t zones[32], sites[32];
+          out.targets[0] = gust_bundle_survivors(kind, size, c.source, c.target, c.bundle.data(), c.bundle.size(), c.bundle_counts.data(), k, zones, 32, stopped->data(),
+                                                 stopped->size(), none, 0, out.ends, 32, out.hops, 32, out.wholes, 32, sites, 32)
                                .value;
         },
         [=](Case &c) {

@@ -63,13 +63,14 @@ enum {
   GUST_NOT_FILLED = 25,      /* an unused place does not hold GUST_UNUSED; the first place */
   /* Flaws of a sheet: */
   GUST_CUT = 30,             /* fewer than 16 bytes, a wrong length field, or a path that runs out of bytes */
-  GUST_VERSION = 31,         /* the version is not 1 */
+  GUST_VERSION = 31,         /* the version is not one that the call reads or writes */
   GUST_NO_MESH = 32,         /* no such kind or size, or one that has no sheets */
   GUST_PATHS = 33,           /* no path, or more than a relay has links */
   GUST_HOPS = 34,            /* a path with no hops, or more than the longest has; its path */
   GUST_NOT_A_FAN = 35,       /* what is to be written fails the judge, or is of a mesh that has no sheets */
   GUST_LEFT_OVER = 36,       /* bytes are left over */
   GUST_LONE_PATH = 37,       /* a sheet with a single path of a two-level mesh */
+  GUST_ZONE = 38,            /* a zone that is not 0, where version 1 is to be written; its path */
   /* Frames that arrive: */
   GUST_FRAME_SEEN = 41,      /* a frame of this number was passed before */
   GUST_FRAME_OLD = 42,       /* the number is neither ahead of the newest nor among the newest 64 */
@@ -158,20 +159,22 @@ GustVerdict gust_judge_bundle(uint64_t kind, uint64_t size, uint64_t source, uin
 
 /* Of a fan, which paths are whole: those on which no relay is in `stopped` and no two neighbouring relays are a pair of `cuts`, in either order. Pair j of `cuts` is
  * cuts[2j] and cuts[2j + 1]; a last number without a partner, and a pair that is no link, do nothing; with cuts_len 0 nothing is cut. Writes for path i its target to
- * ends[i], its hops to hops[i], and 1 to wholes[i] where it is whole, else 0; elements from k on stay as they were. The value is how many are whole: with the source
+ * ends[i], its hops to hops[i], 1 to wholes[i] where it is whole, else 0, and zones[i] to out_zones[i]; elements from k on stay as they were. The value is how many are whole: with the source
  * not stopped k - f at least, where f is how many different relays have stopped and different links are cut. Numbers, in this order: 1 to 7; 8 where there are fewer
- * than k * W places, k counts or k of ends, hops or wholes; then 20 to 25.
- * Changed: `cuts` and `cuts_len` are new, here and in gust_bundle_survivors; with any pointer that is not null and 0 they answer as before. */
+ * than k * W places, k counts, k zones or k of ends, hops, wholes or out_zones; then 20 to 25.
+ * Changed: `zones`, `zones_len` and `out_zones`, `out_zones_len` are new, here and in gust_bundle_survivors: the build zone of each path, of 32 bits. */
 GustAnswer gust_survivors(uint64_t kind, uint64_t size, uint64_t source, const uint64_t *targets, size_t targets_len, const uint64_t *places,
-                          size_t places_len, const uint64_t *counts, size_t counts_len, const uint64_t *stopped, size_t stopped_len, const uint64_t *cuts,
-                          size_t cuts_len, uint64_t *ends, size_t ends_len, uint64_t *hops, size_t hops_len, uint64_t *wholes, size_t wholes_len);
+                          size_t places_len, const uint64_t *counts, size_t counts_len, const uint32_t *zones, size_t zones_len, const uint64_t *stopped, size_t stopped_len,
+                          const uint64_t *cuts, size_t cuts_len, uint64_t *ends, size_t ends_len, uint64_t *hops, size_t hops_len, uint64_t *wholes, size_t wholes_len,
+                          uint32_t *out_zones, size_t out_zones_len);
 
 /* The same of a bundle: ends[i] is the target for every path. With neither end stopped, links - f paths at least are whole, f as above; where an end has stopped none
- * is. Numbers, in this order: 1, 52, 2, 5, 6; 8 as gust_bundle, or where there are fewer than links of ends, hops or wholes; then
+ * is. Numbers, in this order: 1, 52, 2, 5, 6; 8 as gust_bundle, or where there are fewer than links of zones, ends, hops, wholes or out_zones; then
  * 20 to 25. */
 GustAnswer gust_bundle_survivors(uint64_t kind, uint64_t size, uint64_t source, uint64_t target, const uint64_t *places, size_t places_len,
-                                 const uint64_t *counts, size_t counts_len, const uint64_t *stopped, size_t stopped_len, const uint64_t *cuts, size_t cuts_len,
-                                 uint64_t *ends, size_t ends_len, uint64_t *hops, size_t hops_len, uint64_t *wholes, size_t wholes_len);
+                                 const uint64_t *counts, size_t counts_len, const uint32_t *zones, size_t zones_len, const uint64_t *stopped, size_t stopped_len,
+                                 const uint64_t *cuts, size_t cuts_len, uint64_t *ends, size_t ends_len, uint64_t *hops, size_t hops_len, uint64_t *wholes, size_t wholes_len,
+                                 uint32_t *out_zones, size_t out_zones_len);
 
 /* Writes the sheet of a fan at the start of `out`; the value is its length in bytes. Bytes after it stay as they were. Numbers: 37 for kind 2 and a single
  * target, whatever else is asked; 35 of a mesh that has no sheets, and where the judge tells a number but 8; 8 where it tells 8, or where `out_len` is below the
@@ -185,6 +188,29 @@ GustAnswer gust_write_sheet(uint64_t kind, uint64_t size, uint64_t source, const
  * path that ends in that target; 22 and 24 path by path, with path and place. docs/SHEETS.md says what to mend. */
 GustReading gust_read_sheet(const uint8_t *bytes, size_t bytes_len, uint64_t *places, size_t places_len, uint64_t *counts, size_t counts_len,
                             uint64_t *targets, size_t targets_len);
+
+/* ---- sheets with zones. Version 2 of a sheet has a zone of 32 bits for each path, version 1 has none, which reads as 0 (docs/SHEETS.md). */
+
+/* What a sheet of either version tells: as GustReading, and its version, which is 0 where something stands against it. */
+typedef struct GustZonedReading {
+  uint64_t number, path, place, kind, size, source, paths, version;
+} GustZonedReading;
+
+/* Writes the sheet of a fan with a zone for each path, in version 1 or 2. Numbers: 37 as in gust_write_sheet; 31 for any version but 1 and 2; 35 and 8 by the judge, where too few
+ * zones are 8 as too few counts are; 38 with the first path whose zone is not 0, where the version is 1; 8 where `out_len` is below the length of the sheet. */
+GustAnswer gust_write_zoned_sheet(uint64_t version, uint64_t kind, uint64_t size, uint64_t source, const uint64_t *targets, size_t targets_len, const uint64_t *places,
+                                  size_t places_len, const uint64_t *counts, size_t counts_len, const uint32_t *zones, size_t zones_len, uint8_t *out, size_t out_len);
+
+/* Reads one sheet of either version, and fills k zones too. Numbers as in gust_read_sheet; 31 for any version but 1 and 2; 8 also where there are fewer than k zones, of version 1
+ * too. What it gives, gust_write_zoned_sheet writes back to the same bytes. */
+GustZonedReading gust_read_zoned_sheet(const uint8_t *bytes, size_t bytes_len, uint64_t *places, size_t places_len, uint64_t *counts, size_t counts_len, uint64_t *targets,
+                                       size_t targets_len, uint32_t *zones, size_t zones_len);
+
+/* Moves a sheet of version 1 to version 2, with zone 0 for each path, and one of version 2 back to version 1; the value is its length in bytes. Both ways round give the same bytes.
+ * Numbers: those of gust_read_sheet but its 8, with path and place, where the version that it does not start from is 31; on the way back 38 with the first path whose zone is not 0;
+ * and 8 where `out_len` is below the length of the sheet. `bytes` and `out` may not overlap. */
+GustAnswer gust_sheet_to_2(const uint8_t *bytes, size_t bytes_len, uint8_t *out, size_t out_len);
+GustAnswer gust_sheet_to_1(const uint8_t *bytes, size_t bytes_len, uint8_t *out, size_t out_len);
 
 /* A way round: writes a shortest path from `source` to `target` on which no relay is in `stopped`, both ends included, from place 0 of `out`; the value is its hops,
  * the fewest that any such path has. Which shortest path it is, where there are several, is the library's choice. Places after its last relay stay as they were. Equal ends

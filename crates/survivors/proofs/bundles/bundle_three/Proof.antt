@@ -1,4 +1,4 @@
--- `survivors::bundles::bundle_survivors` meets its contract: what the judge finds, else the columns of the bundle. Assumes nothing.
+-- `survivors::bundles::bundle_three` meets its contract: what the judge finds, else the columns of the bundle. Assumes nothing.
 use Prim.Native.Nat.{_≤_}
 use mathlib.Core.Path.{_≡_, sym, ap, _∙_}
 use mathlib.Core.Option.{none}
@@ -15,8 +15,8 @@ use Rattle.judge.specs.Asked.{ends-cut}
 use Rattle.survivors.specs.Says.{lacking}
 use Rattle.survivors.specs.Laws.{found-survived, refused-survived, judged-passed, ready, survived, bundle-many, bundle-lacking}
 use borrow.Author.Needs.{needs}
-use Rattle.survivors.proofs.bundles.bundle_survivors.Statement.{statement}
-use Rattle.survivors.proofs.bundles.bundle_survivors.Tie as tie
+use Rattle.survivors.proofs.bundles.bundle_three.Statement.{statement}
+use Rattle.survivors.proofs.bundles.bundle_three.Tie as tie
 
 abbrev at : tie.After-judge-bundle-with → tie.Start
 at c = c .before .before .before .before .before .before .before .before .before .before
@@ -26,13 +26,13 @@ asked s = bundleAsked (kindOf (s .args .mesh .kind)) (s .args .mesh .size) (s .a
 
 -- what the judge told
 abbrev ruled : tie.Start → Ruling
-ruled s = let a = s .args in askedTold (asked s) (a .places .now) (a .counts .now) (lacking (asked s .targets) (a .ends .now) (a .hops .now) (a .wholes .now))
+ruled s = let a = s .args in askedTold (asked s) (a .places .now) (a .counts .now) (lacking (a .lacking) (asked s .targets) (a .ends .now) (a .hops .now) (a .wholes .now))
 
 told : (c : tie.After-judge-bundle-with) → verdictTold (c .judge-bundle-with .result) ≡ ruled (at c)
 told c =
     let a = at c .args in
     c .judge-bundle-with .ensures
-    ∙ bundle-lacking (kindOf (a .mesh .kind)) (a .mesh .size) (a .source) (a .target) (c .before .before .bundle-paths .ensures) (a .places .now) (a .counts .now)
+    ∙ bundle-lacking (kindOf (a .mesh .kind)) (a .mesh .size) (a .source) (a .target) (c .before .before .bundle-paths .ensures) (a .lacking) (a .places .now) (a .counts .now)
     (a .ends .now) (a .hops .now) (a .wholes .now) (c .before .few .ensures)
 
 clean : (c : tie.After-enum-told) → ruling 0 0 0 ≡ ruled (at (c .before .before))
@@ -43,7 +43,7 @@ fine : (c : tie.After-enum-told) → first (asked (at (c .before .before)) .faul
 fine c =
     let s = at (c .before .before) in
     let a = s .args in
-    judged-passed (asked s) (a .places .now) (a .counts .now) (failed (a .stopped .now) (a .cuts .now)) (a .ends .now) (a .hops .now) (a .wholes .now) (clean c) .faultless
+    judged-passed (a .lacking) (asked s) (a .places .now) (a .counts .now) (failed (a .stopped .now) (a .cuts .now)) (a .ends .now) (a .hops .now) (a .wholes .now) (clean c) .faultless
 
 many : (c : tie.After-enum-told) → let a = at (c .before .before) .args in c .before .before .before .before .bundle-paths .result ≡ meshOf (a .mesh .kind) (a .mesh .size) .links
 many c =
@@ -89,7 +89,7 @@ fill-requires c κs =
     let p = c .before .before .before .before in
     let s = at (p .before .before .before) in
     let a = s .args in
-    ready (asked s) (a .places .now) (a .counts .now) (failed (a .stopped .now) (a .cuts .now)) (a .ends .now) (a .hops .now) (a .wholes .now) (clean (p .before)) (p .bundle-places-in .ensures) (cut (p .before))
+    ready (a .lacking) (asked s) (a .places .now) (a .counts .now) (failed (a .stopped .now) (a .cuts .now)) (a .ends .now) (a .hops .now) (a .wholes .now) (clean (p .before)) (p .bundle-places-in .ensures) (cut (p .before))
 
 enum-known-verdict : tie.Need-enum-known-verdict
 enum-known-verdict c = search needs
@@ -112,23 +112,23 @@ returns c =
     let p = f .before .before .before .before .before in
     let s = at (p .before .before .before) in
     let a = s .args in
-    survived (asked s) (a .places .now) (a .counts .now) (failed (a .stopped .now) (a .cuts .now)) (a .ends .now) (a .hops .now) (a .wholes .now) (clean (p .before)) (p .bundle-places-in .ensures) (cut (p .before))
+    survived (a .lacking) (asked s) (a .places .now) (a .counts .now) (failed (a .stopped .now) (a .cuts .now)) (a .ends .now) (a .hops .now) (a .wholes .now) (clean (p .before)) (p .bundle-places-in .ensures) (cut (p .before))
     (f .fill .ensures)
 
 returns-2 : tie.Need-returns-2
 returns-2 c =
     let j = c .before .before .before in
     let a = at j .args in
-    found-survived (asked (at j)) (a .places .now) (a .counts .now) (failed (a .stopped .now) (a .cuts .now)) (a .ends .now) (a .hops .now) (a .wholes .now) (c .before .verdict .given .1) (told j)
+    found-survived (a .lacking) (asked (at j)) (a .places .now) (a .counts .now) (failed (a .stopped .now) (a .cuts .now)) (a .ends .now) (a .hops .now) (a .wholes .now) (c .before .verdict .given .1) (told j)
 
 returns-3 : tie.Need-returns-3
 returns-3 c =
     let j = c .before .before .before in
     let a = at j .args in
-    refused-survived (asked (at j)) (a .places .now) (a .counts .now) (failed (a .stopped .now) (a .cuts .now)) (a .ends .now) (a .hops .now) (a .wholes .now) (c .before .verdict2 .given .1) (told j)
+    refused-survived (a .lacking) (asked (at j)) (a .places .now) (a .counts .now) (failed (a .stopped .now) (a .cuts .now)) (a .ends .now) (a .hops .now) (a .wholes .now) (c .before .verdict2 .given .1) (told j)
 
-pub bundle-survivors-spec : {M : Type 1} → statement M
-bundle-survivors-spec =
+pub bundle-three-spec : {M : Type 1} → statement M
+bundle-three-spec =
     tie.close
     (tie.spec
     bundle-paths-requires

@@ -1,4 +1,4 @@
--- `survivors::survivors` meets its contract: what the judge finds, else the columns of the fan. Assumes nothing.
+-- `survivors::three` meets its contract: what the judge finds, else the columns of the fan. Assumes nothing.
 use mathlib.Core.Path.{_≡_, refl, sym, ap, _∙_}
 use Rattle.paths.specs.Whole.{failed}
 use Rattle.mesh.specs.Kinds.{kindOf}
@@ -7,8 +7,8 @@ use Rattle.judge.specs.Says.{Ruling, ruling, verdictTold, Asked, fanAsked, aske
 use Rattle.survivors.specs.Says.{lacking}
 use Rattle.survivors.specs.Laws.{found-survived, refused-survived, judged-passed, ready, survived}
 use borrow.Author.Needs.{needs}
-use Rattle.survivors.proofs.survivors.Statement.{statement}
-use Rattle.survivors.proofs.survivors.Tie as tie
+use Rattle.survivors.proofs.three.Statement.{statement}
+use Rattle.survivors.proofs.three.Tie as tie
 
 abbrev at : tie.After-judge-with → tie.Start
 at c = c .before .before .before .before .before .before .before .before .before .before
@@ -18,7 +18,7 @@ asked s = fanAsked (kindOf (s .args .mesh .kind)) (s .args .mesh .size) (s .args
 
 -- what the judge told
 abbrev ruled : tie.Start → Ruling
-ruled s = let a = s .args in askedTold (asked s) (a .places .now) (a .counts .now) (lacking (a .targets .now) (a .ends .now) (a .hops .now) (a .wholes .now))
+ruled s = let a = s .args in askedTold (asked s) (a .places .now) (a .counts .now) (lacking (a .lacking) (a .targets .now) (a .ends .now) (a .hops .now) (a .wholes .now))
 
 told : (c : tie.After-judge-with) → verdictTold (c .judge-with .result) ≡ ruled (at c)
 told c =
@@ -42,14 +42,14 @@ places-in-requires c κs =
     let s = at (c .before .before) in
     let a = s .args in
     request-fine (kindOf (a .mesh .kind)) (a .mesh .size) (a .source) (a .targets .now)
-    (judged-passed (asked s) (a .places .now) (a .counts .now) (failed (a .stopped .now) (a .cuts .now)) (a .ends .now) (a .hops .now) (a .wholes .now) (clean c) .faultless) .known
+    (judged-passed (a .lacking) (asked s) (a .places .now) (a .counts .now) (failed (a .stopped .now) (a .cuts .now)) (a .ends .now) (a .hops .now) (a .wholes .now) (clean c) .faultless) .known
 
 fill-requires : tie.Need-fill-requires
 fill-requires c κs =
     let p = c .before .before .before in
     let s = at (p .before .before .before) in
     let a = s .args in
-    ready (asked s) (a .places .now) (a .counts .now) (failed (a .stopped .now) (a .cuts .now)) (a .ends .now) (a .hops .now) (a .wholes .now) (clean (p .before)) (p .places-in .ensures) refl
+    ready (a .lacking) (asked s) (a .places .now) (a .counts .now) (failed (a .stopped .now) (a .cuts .now)) (a .ends .now) (a .hops .now) (a .wholes .now) (clean (p .before)) (p .places-in .ensures) refl
 
 enum-known-verdict : tie.Need-enum-known-verdict
 enum-known-verdict c = search needs
@@ -72,23 +72,23 @@ returns c =
     let p = f .before .before .before .before in
     let s = at (p .before .before .before) in
     let a = s .args in
-    survived (asked s) (a .places .now) (a .counts .now) (failed (a .stopped .now) (a .cuts .now)) (a .ends .now) (a .hops .now) (a .wholes .now) (clean (p .before)) (p .places-in .ensures) refl
+    survived (a .lacking) (asked s) (a .places .now) (a .counts .now) (failed (a .stopped .now) (a .cuts .now)) (a .ends .now) (a .hops .now) (a .wholes .now) (clean (p .before)) (p .places-in .ensures) refl
     (f .fill .ensures)
 
 returns-2 : tie.Need-returns-2
 returns-2 c =
     let j = c .before .before .before in
     let a = at j .args in
-    found-survived (asked (at j)) (a .places .now) (a .counts .now) (failed (a .stopped .now) (a .cuts .now)) (a .ends .now) (a .hops .now) (a .wholes .now) (c .before .verdict .given .1) (told j)
+    found-survived (a .lacking) (asked (at j)) (a .places .now) (a .counts .now) (failed (a .stopped .now) (a .cuts .now)) (a .ends .now) (a .hops .now) (a .wholes .now) (c .before .verdict .given .1) (told j)
 
 returns-3 : tie.Need-returns-3
 returns-3 c =
     let j = c .before .before .before in
     let a = at j .args in
-    refused-survived (asked (at j)) (a .places .now) (a .counts .now) (failed (a .stopped .now) (a .cuts .now)) (a .ends .now) (a .hops .now) (a .wholes .now) (c .before .verdict2 .given .1) (told j)
+    refused-survived (a .lacking) (asked (at j)) (a .places .now) (a .counts .now) (failed (a .stopped .now) (a .cuts .now)) (a .ends .now) (a .hops .now) (a .wholes .now) (c .before .verdict2 .given .1) (told j)
 
-pub survivors-spec : {M : Type 1} → statement M
-survivors-spec =
+pub three-spec : {M : Type 1} → statement M
+three-spec =
     tie.close
     (tie.spec
     few-requires
