@@ -1,0 +1,6 @@
+-- Books of sheets.
+pub mod Ordered
+pub mod Pieces
+pub mod Sheets
+pub mod Stands
+pub mod Removed

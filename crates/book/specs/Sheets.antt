@@ -1,0 +1,84 @@
+-- What a book asks of a sheet that is added (`against`: the reader's numbers but 8), and all that it knows of one that is accepted (`Sheet`, `accepted`): it is as long as it
+-- tells, its version is not 0, and its key is one. Nothing else of this library's sheets matters to a book. Assumes nothing.
+use Prim.Native.Nat.{ℕ, _+_, _-_, _≤_, _<_}
+use mathlib.Core.Path.{_≡_, refl, sym, ap, ap₂, _∙_, subst}
+use mathlib.Core.Bool.{Bool, true, false, not}
+use mathlib.Core.Option.{Option, none, some}
+use mathlib.Core.List.{List}
+use native.Mathlib.Omega.{arith}
+use lib.Dec.{eqb, ltb}
+use lib.ListN.{length}
+use borrow.Author.Tests.{ltb-true, ltb-false, eqb-true, eqb-false, not-false, ne-eqb}
+use Rattle.scan.specs.Scan.{pick}
+use Rattle.scan.specs.Laws.{true-or, true-false}
+use Rattle.cube.specs.Sizes.{known-most}
+use Rattle.two_parts.specs.Parts.{known-bounds}
+use Rattle.mesh.specs.Kinds.{Kind, kindOf, meshOf, planned}
+use Rattle.mesh.specs.Laws.{planned-case, planned-known}
+use Rattle.mesh.specs.Limits.{known-relays}
+use Rattle.mesh.specs.Requests.{neither-wanting}
+use Rattle.judge.specs.Says.{numberOf}
+use Rattle.sheet.specs.Format.{VERSION, HEAD, lengthAt, versionAt, kindAt, sizeAt, sourceAt, countAt}
+use Rattle.sheet.specs.Flaws.{flawed-none, before-none, no-flaw}
+use Rattle.sheet.specs.Judging.{judged, judged-fine}
+use Rattle.sheet.specs.Says.{flawed}
+use Rattle.sheet.specs.declared.Flaw.{Flaw}
+use Rattle.sheet.specs.declared.Flaw.the-variants as flaw
+use Rattle.sheet_take.specs.Says.{looked}
+use Rattle.sheet_check.specs.Says.{cut, badCount, meshAt, flawIn, ruled, headAgainst, pathsAgainst, checkAgainst, sheetRuling, sheetTargets, sheetPlaces, sheetCounts}
+use Rattle.book.specs.Pieces.{lengthOf, live, SOURCES}
+
+unfoldable pub against : List ℕ → Option Flaw
+against l = checkAgainst l
+
+-- a kind, a size and a source that a sheet can have
+pub record Keyed (kind size source : ℕ) : Type 0 where
+  pub some-kind : 1 ≤ kind
+  pub few-kinds : kind ≤ 2
+  pub small : size < 256
+  pub near : source < SOURCES
+
+pub record Sheet (l : List ℕ) : Type 0 where
+  pub long : HEAD ≤ length l
+  pub told : lengthOf l ≡ length l
+  pub alive : live l ≡ true
+  pub keyed : Keyed (kindAt l) (sizeAt l) (sourceAt l)
+
+ruled-none : (n : ℕ) (f : Flaw) → pick (eqb n 0) none (some f) ≡ none → n ≡ 0
+ruled-none n f e = go (eqb n 0) refl e
+  where
+    go : (b : Bool) → eqb n 0 ≡ b → pick b none (some f) ≡ none → n ≡ 0
+    go true q z = eqb-true n 0 q
+    go false q z = no-flaw z
+
+planned-few : (kind size : ℕ) → planned kind size ≡ true → (1 ≤ kind) × (kind ≤ 2) × (size < 256)
+planned-few kind size h =
+    planned-case kind size h (λ j K. (1 ≤ j) × (j ≤ 2) × (size < 256))
+    (λ z. (omega arith, omega arith, omega (arith, known-most size refl z))) (λ z. (omega arith, omega arith, omega (arith, known-bounds size z .1)))
+
+pub accepted : (l : List ℕ) → against l ≡ none → Sheet l
+unfolding against
+accepted l e =
+    let whole = before-none (headAgainst l) (pathsAgainst l) e in
+    let p = flawed-none (cut l) flaw.Cut _ (whole .0) in
+    let q = flawed-none (not (eqb (versionAt l) VERSION)) flaw.Version _ (p .1) in
+    let r = flawed-none (not (planned (kindAt l) (sizeAt l))) flaw.NoMesh _ (q .1) in
+    let version = eqb-true (versionAt l) VERSION (not-false (eqb (versionAt l) VERSION) (q .0)) in
+    let there = not-false (planned (kindAt l) (sizeAt l)) (r .0) in
+    let lengths = neither-wanting (ltb (length l) HEAD) (not (eqb (lengthAt l) (length l - 4))) refl (p .0) in
+    let long : HEAD ≤ length l = ltb-false (length l) HEAD (lengths .0) in
+    let told = eqb-true (lengthAt l) (length l - 4) (not-false (eqb (lengthAt l) (length l - 4)) (lengths .1)) in
+    let found = ruled-none (numberOf (sheetRuling l)) (flawIn (sheetRuling l)) (before-none (looked VERSION (meshAt l .longest) l HEAD 0 (countAt l)) (ruled (sheetRuling l)) (whole .1) .1) in
+    let fine = judged-fine (kindOf (kindAt l)) (sizeAt l) (sourceAt l) (sheetTargets l) (judged (kindOf (kindAt l)) (sizeAt l) (sourceAt l) (sheetTargets l) (sheetPlaces l) (sheetCounts l) found) in
+    let few = planned-few (kindAt l) (sizeAt l) there in
+    record {
+      long = long;
+      told = omega arith;
+      alive = ap not (ne-eqb (versionAt l) 0 (λ z. omega arith));
+      keyed = record {
+        some-kind = few .0;
+        few-kinds = few .1;
+        small = few .2;
+        near = omega (arith, fine .sound .source, known-relays (kindAt l) (sizeAt l) (planned-known (kindAt l) (sizeAt l) there));
+      };
+    }
