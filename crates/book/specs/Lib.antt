@@ -4,3 +4,9 @@ pub mod Pieces
 pub mod Sheets
 pub mod Stands
 pub mod Removed
+pub mod Told
+pub mod Says
+pub mod Plain
+pub mod Held
+pub mod Steps
+pub mod Follows

@@ -88,7 +88,7 @@ module _ (l : List ℕ) (i n : ℕ) where
   cut-at : i ≤ n → take i (take n l) ≡ take i l
   cut-at h = take-take i n l h
 
-  behind : i ≤ n → take (n - i) (drop i l) ≡ drop i (take n l)
+  pub behind : i ≤ n → take (n - i) (drop i l) ≡ drop i (take n l)
   behind h = sym (go i l n h)
     where
       go : (i : ℕ) (l : List ℕ) (n : ℕ) → i ≤ n → drop i (take n l) ≡ take (n - i) (drop i l)
