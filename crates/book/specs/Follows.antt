@@ -71,11 +71,11 @@ module _ {places room : ℕ} {m : Plain} {b : Book} {bytes index : List ℕ} (k 
   -- ---- adding
 
   module _ (S : List ℕ) where
-    u-is : full b bytes index S ≡ leb places (m .entries)
+    u-is : full b index ≡ leb places (m .entries)
     unfolding full
     u-is = ap₂ leb (k .held .places-are) (count-is (k .held) ∙ sym (k .entries-is))
 
-    v-is : short b bytes index S ≡ ltb room (m .used + length S)
+    v-is : short b bytes S ≡ ltb room (m .used + length S)
     unfolding short
     v-is = ap₂ ltb (k .held .room-is) (ap (λ (n : ℕ). n + length S) (sym (k .used-are)))
 
@@ -86,13 +86,13 @@ module _ {places room : ℕ} {m : Plain} {b : Book} {bytes index : List ℕ} (k 
         (lookup (k .held) (kindAt S) (sizeAt S) (sourceAt S) (accepted S e .keyed))
 
     -- what the reader has nothing against is told as the map tells it, and what it has something against is told so in any case
-    told-is : (r : Option Flaw) → against S ≡ r → addTold r (there b index (keyAt S)) (full b bytes index S) (short b bytes index S) ≡ addTold r (has (m .at (kindAt S) (sizeAt S) (sourceAt S))) (leb places (m .entries)) (ltb room (m .used + length S))
+    told-is : (r : Option Flaw) → against S ≡ r → addTold r (there b index (keyAt S)) (full b index) (short b bytes S) ≡ addTold r (has (m .at (kindAt S) (sizeAt S) (sourceAt S))) (leb places (m .entries)) (ltb room (m .used + length S))
     told-is (some f) e = refl
-    told-is none e = ap₂ (λ (x y : Bool). addTold none x y (short b bytes index S)) (t-is e) u-is ∙ ap (addTold none (has (m .at (kindAt S) (sizeAt S) (sourceAt S))) (leb places (m .entries))) v-is
+    told-is none e = ap₂ (λ (x y : Bool). addTold none x y (short b bytes S)) (t-is e) u-is ∙ ap (addTold none (has (m .at (kindAt S) (sizeAt S) (sourceAt S))) (leb places (m .entries))) v-is
 
     add-told : answer (record { head = b; bytes = bytes; index = index }) (add S) ≡ plainAnswer places room m (add S)
     unfolding answer plainAnswer addSays
-    add-told = told-by (against S) (there b index (keyAt S)) (full b bytes index S) (short b bytes index S) (bookOf (b .used + length S) (count b index + 1)) ∙ told-is (against S) refl
+    add-told = told-by (against S) (there b index (keyAt S)) (full b index) (short b bytes S) (bookOf (b .used + length S) (count b index + 1)) ∙ told-is (against S) refl
 
     -- the map and the slices with the sheet
     abbrev map-with : Plain
@@ -127,13 +127,13 @@ module _ {places room : ℕ} {m : Plain} {b : Book} {bytes index : List ℕ} (k 
         own kind size source q =
             ap₂ (λ (k z : ℕ). sheetOf k z source ps) (sym (q .kind-is)) (sym (q .size-is)) ∙ ap (λ (c : ℕ). sheetOf (kindAt S) (sizeAt S) c ps) (sym (q .source-is)) ∙ s .none-found
 
-    kept-by : (r : Option Flaw) → against S ≡ r → (x y z : Bool) → there b index (keyAt S) ≡ x → full b bytes index S ≡ y → short b bytes index S ≡ z
+    kept-by : (r : Option Flaw) → against S ≡ r → (x y z : Bool) → there b index (keyAt S) ≡ x → full b index ≡ y → short b bytes S ≡ z
         → (x' : Bool) → (r ≡ none → x' ≡ x)
         → Kept places room (settled r x' y z map-with m) (settled r x y z (bookOf (b .used + length S) (count b index + 1)) b) (settled r x y z bytes-with bytes) (settled r x y z index-with index)
     kept-by (some f) e x y z p q w x' g = k
     kept-by none e x y z p q w x' g = subst (λ (c : Bool). Kept places room (settled none c y z map-with m) (settled none x y z (bookOf (b .used + length S) (count b index + 1)) b) (settled none x y z bytes-with bytes) (settled none x y z index-with index)) (sym (g refl)) (go x y z p q w)
       where
-        go : (x y z : Bool) → there b index (keyAt S) ≡ x → full b bytes index S ≡ y → short b bytes index S ≡ z
+        go : (x y z : Bool) → there b index (keyAt S) ≡ x → full b index ≡ y → short b bytes S ≡ z
             → Kept places room (settled none x y z map-with m) (settled none x y z (bookOf (b .used + length S) (count b index + 1)) b) (settled none x y z bytes-with bytes) (settled none x y z index-with index)
         go true y z p q w = k
         go false true z p q w = k
@@ -148,8 +148,8 @@ module _ {places room : ℕ} {m : Plain} {b : Book} {bytes index : List ℕ} (k 
     unfolding plainAfter addSays addBytes addIndex
     kept-add =
         let x = there b index (keyAt S) in
-        let y = full b bytes index S in
-        let z = short b bytes index S in
+        let y = full b index in
+        let z = short b bytes S in
         let x' = has (m .at (kindAt S) (sizeAt S) (sourceAt S)) in
         let new = bookOf (b .used + length S) (count b index + 1) in
         let done = kept-by (against S) refl x y z refl refl refl x' (λ e. sym (t-is e)) in

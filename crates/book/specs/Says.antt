@@ -75,16 +75,17 @@ ifAdded added.There x y = y
 ifAdded added.Full x y = y
 ifAdded added.NoRoom x y = y
 
+-- no place is left in the index
+unfoldable pub full : (b : Book) (index : List ℕ) → Bool
+full b index = leb (capacity index) (count b index)
+
+-- no room is left after the last sheet
+unfoldable pub short : (b : Book) (bytes sheet : List ℕ) → Bool
+short b bytes sheet = ltb (limit bytes) (b .used + length sheet)
+
 module _ (b : Book) (bytes index sheet : List ℕ) where
-  -- after the last sheet
-  unfoldable pub short : Bool
-  short = ltb (limit bytes) (b .used + length sheet)
-
-  unfoldable pub full : Bool
-  full = leb (capacity index) (count b index)
-
   unfoldable pub addSays : Added
-  addSays = addBy (against sheet) (there b index (keyAt sheet)) full short (bookOf (b .used + length sheet) (count b index + 1))
+  addSays = addBy (against sheet) (there b index (keyAt sheet)) (full b index) (short b bytes sheet) (bookOf (b .used + length sheet) (count b index + 1))
 
   unfoldable pub addBytes : List ℕ
   addBytes = ifAdded addSays (sets bytes (b .used) sheet) bytes

@@ -21,12 +21,16 @@ use Rattle.judge.specs.Says.{numberOf}
 use Rattle.sheet.specs.Format.{VERSION, HEAD, lengthAt, versionAt, kindAt, sizeAt, sourceAt, countAt}
 use Rattle.sheet.specs.Flaws.{flawed-none, before-none, no-flaw}
 use Rattle.sheet.specs.Judging.{judged, judged-fine}
-use Rattle.sheet.specs.Says.{flawed}
+use Rattle.sheet.specs.Says.{flawed, readingTold, readKind, readSize, readSource}
+use Rattle.sheet.specs.declared.Reading.{Reading}
+use Rattle.sheet.specs.declared.Reading.the-variants as reading
+use Rattle.mesh.specs.declared.Mesh as code
+use Rattle.sheet_check.specs.Told.{told-flaw, told-none}
 use Rattle.sheet.specs.declared.Flaw.{Flaw}
 use Rattle.sheet.specs.declared.Flaw.the-variants as flaw
 use Rattle.sheet_take.specs.Says.{looked}
-use Rattle.sheet_check.specs.Says.{cut, badCount, meshAt, flawIn, ruled, headAgainst, pathsAgainst, checkAgainst, sheetRuling, sheetTargets, sheetPlaces, sheetCounts}
-use Rattle.book.specs.Pieces.{lengthOf, live, SOURCES}
+use Rattle.sheet_check.specs.Says.{cut, badCount, meshAt, flawIn, ruled, headAgainst, pathsAgainst, checkAgainst, sheetRuling, sheetTold, sheetTargets, sheetPlaces, sheetCounts}
+use Rattle.book.specs.Pieces.{lengthOf, live, SOURCES, key, keyAt}
 
 unfoldable pub against : List ℕ → Option Flaw
 against l = checkAgainst l
@@ -82,3 +86,39 @@ accepted l e =
         near = omega (arith, fine .sound .source, known-relays (kindAt l) (sizeAt l) (planned-known (kindAt l) (sizeAt l) there));
       };
     }
+
+-- ---- what the check tells
+
+-- a sheet that is read, and its key
+pub record Checked (l : List ℕ) (kind size source : ℕ) : Type 0 where
+  pub fine : against l ≡ none
+  pub kind-is : kind ≡ kindAt l
+  pub size-is : size ≡ sizeAt l
+  pub source-is : source ≡ sourceAt l
+
+module _ (l : List ℕ) where
+  pub check-fan : {r : Reading} {m : code.Mesh} {s k : ℕ} → r ≡ reading.Fan m s k → readingTold r ≡ sheetTold l (checkAgainst l) → Checked l (m .kind) (m .size) s
+  unfolding against
+  check-fan e t =
+      let told = sym (ap readingTold e) ∙ t in
+      let clean = told-none l (checkAgainst l) told in
+      let all = told ∙ ap (sheetTold l) clean in
+      record { fine = clean; kind-is = ap readKind all; size-is = ap readSize all; source-is = ap readSource all }
+
+  pub check-refused : {r : Reading} {f : Flaw} → r ≡ reading.Refused f → readingTold r ≡ sheetTold l (checkAgainst l) → against l ≡ some f
+  unfolding against
+  check-refused e t = sym (told-flaw l (checkAgainst l) (sym (ap readingTold e) ∙ t))
+
+  -- its key is one
+  pub checked-keyed : {kind size source : ℕ} → Checked l kind size source → Keyed kind size source
+  checked-keyed c =
+      let k = accepted l (c .fine) .keyed in
+      record {
+        some-kind = omega (arith, c .kind-is, k .some-kind);
+        few-kinds = omega (arith, c .kind-is, k .few-kinds);
+        small = omega (arith, c .size-is, k .small);
+        near = omega (arith, c .source-is, k .near);
+      }
+
+  pub checked-key : {kind size source n : ℕ} → Checked l kind size source → n ≡ key kind size source → n ≡ keyAt l
+  checked-key {kind} {size} {source} c e = e ∙ ap₂ (λ (k z : ℕ). key k z source) (c .kind-is) (c .size-is) ∙ ap (key (kindAt l) (sizeAt l)) (c .source-is)

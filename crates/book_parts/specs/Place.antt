@@ -79,6 +79,24 @@ module _ (l : List ℕ) (x : ℕ) where
       go (inl t) = inl (ltb-true i j t)
       go (inr f) = inr (ltb-false i j f)
 
+  -- no further than the numbers looked at
+  within-in : (steps from left : ℕ) → placeIn steps l from left x ≤ from + left
+  unfolding placeIn
+  within-in zero from left = omega arith
+  within-in (suc steps) from zero = omega arith
+  within-in (suc steps) from (suc left) =
+      go (ltb (getD l (from + suc left / 2) 0) x) (within-in steps (from + suc left / 2 + 1) (suc left - suc left / 2 - 1)) (within-in steps from (suc left / 2))
+    where
+      go : (b : Bool) → placeIn steps l (from + suc left / 2 + 1) (suc left - suc left / 2 - 1) x ≤ from + suc left / 2 + 1 + (suc left - suc left / 2 - 1)
+          → placeIn steps l from (suc left / 2) x ≤ from + suc left / 2
+          → pick b (placeIn steps l (from + suc left / 2 + 1) (suc left - suc left / 2 - 1) x) (placeIn steps l from (suc left / 2) x) ≤ from + suc left
+      go true h g = omega arith
+      go false h g = omega arith
+
+  pub place-within : (n : ℕ) → place l 0 n x ≤ n
+  unfolding place
+  place-within n = omega (arith, within-in n 0 n)
+
   -- ---- numbers that ascend
 
   -- r is the place of x among the first n

@@ -7,8 +7,6 @@ use Rattle.book_parts.specs.Moved.{Copied, copied-none, copied-more, cop
 use borrow.Author.Needs.{needs}
 use Rattle.book_parts.proofs.copy.Statement.{statement}
 use Rattle.book_parts.proofs.copy.Tie as tie
-use Rattle.book_parts.proofs.copy.Reads as reads
-use Rattle.book_parts.proofs.copy.Lts as lts
 
 abbrev Inv-loop : tie.InvT-loop
 Inv-loop bytes at out₀ n q₀ out q = (at + length bytes ≤ length out₀) × Copied bytes at out₀ out q

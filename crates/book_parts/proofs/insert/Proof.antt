@@ -4,8 +4,6 @@ use Rattle.book_parts.specs.Moved.{Opening, opening-starts, opening-more
 use borrow.Author.Needs.{needs}
 use Rattle.book_parts.proofs.insert.Statement.{statement}
 use Rattle.book_parts.proofs.insert.Tie as tie
-use Rattle.book_parts.proofs.insert.Reads as reads
-use Rattle.book_parts.proofs.insert.Lts as lts
 
 abbrev Inv-loop : tie.InvT-loop
 Inv-loop index₀ i n x count carry₀ q₀ index carry q = Opening index₀ i n x index carry q

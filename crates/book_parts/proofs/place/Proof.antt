@@ -3,8 +3,6 @@ use Rattle.book_parts.specs.Place.{Halving, halving-starts, halving-high
 use borrow.Author.Needs.{needs}
 use Rattle.book_parts.proofs.place.Statement.{statement}
 use Rattle.book_parts.proofs.place.Tie as tie
-use Rattle.book_parts.proofs.place.Reads as reads
-use Rattle.book_parts.proofs.place.Lts as lts
 
 abbrev Inv-loop : tie.InvT-loop
 Inv-loop index n x from₀ left₀ from left = Halving index n x from left

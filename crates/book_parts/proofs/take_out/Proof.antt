@@ -4,8 +4,6 @@ use Rattle.book_parts.specs.Moved.{Closing, closing-starts, closing-more
 use borrow.Author.Needs.{needs}
 use Rattle.book_parts.proofs.take_out.Statement.{statement}
 use Rattle.book_parts.proofs.take_out.Tie as tie
-use Rattle.book_parts.proofs.take_out.Reads as reads
-use Rattle.book_parts.proofs.take_out.Lts as lts
 
 abbrev Inv-loop : tie.InvT-loop
 Inv-loop index₀ i n count q₀ index q = Closing index₀ i n index q

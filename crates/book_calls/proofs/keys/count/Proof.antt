@@ -1,0 +1,17 @@
+-- `book_calls::keys::count` meets its contract. Assumes nothing.
+use Rattle.book_calls.specs.Cases.{count-is}
+use borrow.Author.Needs.{needs}
+use Rattle.book_calls.proofs.keys.count.Statement.{statement}
+use Rattle.book_calls.proofs.keys.count.Tie as tie
+
+lesser-requires : tie.Need-lesser-requires
+lesser-requires c κs = search needs
+
+lesser-requires-2 : tie.Need-lesser-requires-2
+lesser-requires-2 c κs = search needs
+
+returns : tie.Need-returns
+returns c = let a = c .before .before .before .args in count-is (a .book) (a .index .now) (c .before .lesser .ensures) (c .lesser2 .ensures)
+
+pub count-spec : {M : Type 1} → statement M
+count-spec = tie.close (tie.spec lesser-requires lesser-requires-2 returns)
