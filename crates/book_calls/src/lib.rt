@@ -1,5 +1,4 @@
 // A book of sheets kept in two lent slices: a sheet added, found, removed. docs/BOOKS.md has the bytes and the index place by place.
-mod keys;
 mod puts;
 
 ghost use mathlib.Core.Path.{_≡_};
@@ -23,7 +22,7 @@ pub fn add(book: Book, bytes: &mut [u8], index: &mut [u64], sheet: &[u8]) -> Add
             bytes,
             index,
             sheet,
-            keys::key(mesh.kind, mesh.size, source),
+            book_keys::key(mesh.kind, mesh.size, source),
         ),
         Reading::Refused(f) => Added::Flawed(f),
     }
@@ -33,7 +32,7 @@ pub fn add(book: Book, bytes: &mut [u8], index: &mut [u64], sheet: &[u8]) -> Add
 pub fn find(book: Book, bytes: &[u8], index: &[u64], kind: u64, size: u64, source: u64) -> Found
     ensures { λ r. ⌜ r ≡ findSays book (now (bytes .entry)) (now (index .entry)) kind size source ⌝ }
 {
-    let s = keys::sought(book, bytes, index, kind, size, source);
+    let s = book_keys::sought(book, bytes, index, kind, size, source);
     match s {
         Sought::At(_, start, n) => Found::At(start, n),
         Sought::Missing => Found::Missing,
@@ -52,10 +51,10 @@ pub fn remove(
 ) -> Removed
     ensures { λ r. ⌜ (r ≡ removeSays book (now (bytes .entry)) (now (index .entry)) kind size source) × (now (bytes .exit) ≡ removeBytes book (now (bytes .entry)) (now (index .entry)) kind size source) × (now (index .exit) ≡ removeIndex book (now (bytes .entry)) (now (index .entry)) kind size source) ⌝ }
 {
-    let s = keys::sought(book, bytes, index, kind, size, source);
+    let s = book_keys::sought(book, bytes, index, kind, size, source);
     match s {
         Sought::At(i, start, _) => {
-            let n = keys::count(book, index);
+            let n = book_keys::count(book, index);
             bytes[start + 4] = 0;
             book_parts::take_out(index, i, n);
             Removed::Done(Book {

@@ -5,7 +5,6 @@ ghost use lib.ListN.{length};
 ghost use Rattle.book.specs.Pieces.{keyAt};
 ghost use Rattle.book.specs.Sheets.{against};
 ghost use Rattle.book.specs.Says as says;
-use crate::keys;
 use book::Added;
 use book::Book;
 
@@ -13,7 +12,7 @@ use book::Book;
 fn short(book: Book, bytes: &[u8], sheet: &[u8]) -> bool
     ensures { λ r. ⌜ r ≡ says.short book (now (bytes .entry)) (now (sheet .entry)) ⌝ }
 {
-    let room = keys::lesser(65536, bytes.len());
+    let room = book_keys::lesser(65536, bytes.len());
     let n = sheet.len();
     if room < n {
         return true;
@@ -25,7 +24,7 @@ fn short(book: Book, bytes: &[u8], sheet: &[u8]) -> bool
 fn full(book: Book, index: &[u64]) -> bool
     ensures { λ r. ⌜ r ≡ says.full book (now (index .entry)) ⌝ }
 {
-    keys::lesser(256, index.len()) <= keys::count(book, index)
+    book_keys::lesser(256, index.len()) <= book_keys::count(book, index)
 }
 
 // Puts a sheet that was checked behind the last one, and its place into the index.
@@ -33,9 +32,9 @@ pub fn put(book: Book, bytes: &mut [u8], index: &mut [u64], sheet: &[u8], key: u
     requires { ⌜ (against (now sheet) ≡ none) × (key ≡ keyAt (now sheet)) ⌝ }
     ensures { λ r. ⌜ (r ≡ says.addSays book (now (bytes .entry)) (now (index .entry)) (now (sheet .entry))) × (now (bytes .exit) ≡ says.addBytes book (now (bytes .entry)) (now (index .entry)) (now (sheet .entry))) × (now (index .exit) ≡ says.addIndex book (now (bytes .entry)) (now (index .entry)) (now (sheet .entry))) ⌝ }
 {
-    let n = keys::count(book, index);
+    let n = book_keys::count(book, index);
     let i = book_parts::place(index, n, key * 65536);
-    if keys::there(index, n, i, key) {
+    if book_keys::there(index, n, i, key) {
         return Added::There;
     }
     if full(book, index) {

@@ -6,7 +6,7 @@ use Rattle.book_calls.proofs.add.Statement.{statement}
 use Rattle.book_calls.proofs.add.Tie as tie
 
 check-requires : tie.Need-check-requires
-check-requires c κs = search needs
+check-requires c κs = tt
 
 enum-known-read : tie.Need-enum-known-read
 enum-known-read c = search needs
@@ -21,10 +21,10 @@ enum-known-read-2 : tie.Need-enum-known-read-2
 enum-known-read-2 c = search needs
 
 same-length : tie.Need-same-length
-same-length c = search needs
+same-length c = c .before .before .before .before .put .kept .1 .0
 
 same-length-2 : tie.Need-same-length-2
-same-length-2 c = search needs
+same-length-2 c = c .before .before .before .before .put .kept .1 .1 .0
 
 returns : tie.Need-returns
 returns c = search needs

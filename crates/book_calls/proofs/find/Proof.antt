@@ -5,7 +5,7 @@ use Rattle.book_calls.proofs.find.Statement.{statement}
 use Rattle.book_calls.proofs.find.Tie as tie
 
 sought-requires : tie.Need-sought-requires
-sought-requires c κs = search needs
+sought-requires c κs = tt
 
 enum-known-s : tie.Need-enum-known-s
 enum-known-s c = search needs

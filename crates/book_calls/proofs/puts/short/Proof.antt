@@ -5,7 +5,7 @@ use Rattle.book_calls.proofs.puts.short.Statement.{statement}
 use Rattle.book_calls.proofs.puts.short.Tie as tie
 
 lesser-requires : tie.Need-lesser-requires
-lesser-requires c κs = search needs
+lesser-requires c κs = tt
 
 returns : tie.Need-returns
 returns c = let a = c .before .before .before .before .args in short-long (a .book) (a .bytes .now) (a .sheet .now) (c .before .lesser .ensures) (c .if1 .taken)

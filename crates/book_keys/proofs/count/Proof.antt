@@ -1,14 +1,14 @@
--- `book_calls::keys::count` meets its contract. Assumes nothing.
-use Rattle.book_calls.specs.Cases.{count-is}
+-- `book_keys::count` meets its contract. Assumes nothing.
+use Rattle.book_keys.specs.Cases.{count-is}
 use borrow.Author.Needs.{needs}
-use Rattle.book_calls.proofs.keys.count.Statement.{statement}
-use Rattle.book_calls.proofs.keys.count.Tie as tie
+use Rattle.book_keys.proofs.count.Statement.{statement}
+use Rattle.book_keys.proofs.count.Tie as tie
 
 lesser-requires : tie.Need-lesser-requires
-lesser-requires c κs = search needs
+lesser-requires c κs = tt
 
 lesser-requires-2 : tie.Need-lesser-requires-2
-lesser-requires-2 c κs = search needs
+lesser-requires-2 c κs = tt
 
 returns : tie.Need-returns
 returns c = let a = c .before .before .before .args in count-is (a .book) (a .index .now) (c .before .lesser .ensures) (c .lesser2 .ensures)

@@ -1,4 +1,4 @@
-// Kinds, sizes and sources as keys, and a key looked up.
+// Kinds, sizes and sources as keys, and a key looked up in a book. Inner: callers meet each `requires`.
 ghost use mathlib.Core.Path.{_≡_};
 ghost use mathlib.Core.Bool.{false};
 ghost use Prim.Native.Nat.{_<_, _≤_, min};

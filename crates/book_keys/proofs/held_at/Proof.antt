@@ -1,9 +1,9 @@
--- `book_calls::keys::held_at` meets its contract: each return is a case of the definition. Assumes nothing.
+-- `book_keys::held_at` meets its contract: each return is a case of the definition. Assumes nothing.
 use native.Mathlib.Omega.{arith}
-use Rattle.book_calls.specs.Cases.{number-small, held-short, held-cut, held-whole}
+use Rattle.book_keys.specs.Cases.{number-small, held-short, held-cut, held-whole}
 use borrow.Author.Needs.{needs}
-use Rattle.book_calls.proofs.keys.held_at.Statement.{statement}
-use Rattle.book_calls.proofs.keys.held_at.Tie as tie
+use Rattle.book_keys.proofs.held_at.Statement.{statement}
+use Rattle.book_keys.proofs.held_at.Tie as tie
 
 add-if1 : tie.Need-add-if1
 add-if1 c = search needs

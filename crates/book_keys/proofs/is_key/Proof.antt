@@ -1,7 +1,7 @@
--- `book_calls::keys::is_key` meets its contract: each return is a case of the test. Assumes nothing.
+-- `book_keys::is_key` meets its contract: each return is a case of the test. Assumes nothing.
 use borrow.Author.Tests.{eq-eqb, ne-eqb, lt-ltb, le-ltb}
-use Rattle.book_calls.proofs.keys.is_key.Statement.{statement}
-use Rattle.book_calls.proofs.keys.is_key.Tie as tie
+use Rattle.book_keys.proofs.is_key.Statement.{statement}
+use Rattle.book_keys.proofs.is_key.Tie as tie
 
 returns : tie.Need-returns
 returns c = simp (eq-eqb _ _ (c .if1 .taken))

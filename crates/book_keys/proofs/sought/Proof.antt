@@ -1,20 +1,20 @@
--- `book_calls::keys::sought` meets its contract: each return is a case of the definition. Assumes nothing.
+-- `book_keys::sought` meets its contract: each return is a case of the definition. Assumes nothing.
 use mathlib.Core.Path.{sym, _∙_}
 use native.Mathlib.Omega.{arith}
 use Rattle.book.specs.Held.{is-keyed}
-use Rattle.book_calls.specs.Cases.{key-small, count-lent, place-lent, seeks-unkeyed, code-missed, code-held}
+use Rattle.book_keys.specs.Cases.{key-small, count-lent, place-lent, seeks-unkeyed, code-missed, code-held}
 use borrow.Author.Needs.{needs}
-use Rattle.book_calls.proofs.keys.sought.Statement.{statement}
-use Rattle.book_calls.proofs.keys.sought.Tie as tie
+use Rattle.book_keys.proofs.sought.Statement.{statement}
+use Rattle.book_keys.proofs.sought.Tie as tie
 
 is-key-requires : tie.Need-is-key-requires
-is-key-requires c κs = search needs
+is-key-requires c κs = tt
 
 key-requires : tie.Need-key-requires
 key-requires c κs = is-keyed _ _ _ (sym (c .before .is-key .ensures) ∙ c .if1 .taken)
 
 count-requires : tie.Need-count-requires
-count-requires c κs = search needs
+count-requires c κs = tt
 
 mul-place : tie.Need-mul-place
 mul-place c = let a = c .before .before .before .before .before .before .args in omega (arith, key-small (is-keyed (a .kind) (a .size) (a .source) (sym (c .before .before .before .is-key .ensures) ∙ c .before .before .if1 .taken)) (c .before .key .ensures))

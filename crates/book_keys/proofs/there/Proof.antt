@@ -1,8 +1,8 @@
--- `book_calls::keys::there` meets its contract. Assumes nothing.
+-- `book_keys::there` meets its contract. Assumes nothing.
 use borrow.Author.Tests.{lt-ltb, le-ltb}
 use borrow.Author.Needs.{needs}
-use Rattle.book_calls.proofs.keys.there.Statement.{statement}
-use Rattle.book_calls.proofs.keys.there.Tie as tie
+use Rattle.book_keys.proofs.there.Statement.{statement}
+use Rattle.book_keys.proofs.there.Tie as tie
 
 mul-result : tie.Need-mul-result
 mul-result c = search needs
