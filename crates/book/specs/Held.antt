@@ -15,12 +15,13 @@ use Rattle.scan.specs.Scan.{pick}
 use Rattle.scan.specs.Laws.{true-or, true-false}
 use Rattle.paths.specs.Lists.{In}
 use Rattle.sheet.specs.Format.{kindAt, sizeAt, sourceAt}
-use Rattle.book_parts.specs.Place.{place, Placed, place-placed}
+use Rattle.book_parts.specs.Place.{place}
 use Rattle.book.specs.Ordered.{STARTS, entry, keyOf, startOf, below, Rising, rising-at, getD-in, below-is, hit, Hit, hit-true, missed, same-key}
 use Rattle.book.specs.Pieces.{SOURCES, live, key, keyAt, of, joined, placed, sheetOf}
 use Rattle.book.specs.Sheets.{against, Keyed, Sheet, accepted}
 use Rattle.book.specs.Stands.{Piece, Sound, Stands, Owner, placed-in, in-placed, stands-within, stands-sound, stands-same, sheet-some, sheet-none}
 use Rattle.book.specs.Stands as stands
+use Rattle.book.specs.Searched.{search-below, search-hit}
 use Rattle.book.specs.Says.{LIMIT, MOST, limit, capacity, isKey, count, spot, there}
 use Rattle.book.specs.declared.Book.{Book}
 
@@ -123,46 +124,22 @@ module _ {places room : ℕ} {ps : List (List ℕ)} {b : Book} {bytes index : Li
   unfolding count
   count-is = omega (arith, h .entries-fit, h .places-are)
 
-  rising-index : Rising (take (b .entries) index)
-  rising-index = subst Rising (sym (h .index-is)) (h .rising)
-
-  -- the search finds the place of a number
-  pub spot-is : (k : ℕ) → spot b index k ≡ below (entry k 0) (placed 0 ps)
+  -- the search finds the place of a key
+  pub spot-found : (k : ℕ) → spot b index k ≡ place index 0 (b .entries) (entry k 0)
   unfolding spot
-  spot-is k =
-      ap (λ (n : ℕ). place index 0 n (entry k 0)) count-is
-      ∙ sym (ap (below (entry k 0)) (sym (h .index-is))
-      ∙ below-is (entry k 0) (take (b .entries) index) (place index 0 (b .entries) (entry k 0)) (omega (arith, p .within, entries-are))
-      (λ j l. subst (λ (n : ℕ). n < entry k 0) (sym (getD-take (b .entries) index j 0 (omega (arith, p .within)))) (p .before j l))
-      (λ l. subst (λ (n : ℕ). entry k 0 ≤ n) (sym (getD-take (b .entries) index (place index 0 (b .entries) (entry k 0)) 0 (omega (arith, entries-are)))) (p .after (omega (arith, entries-are)))))
-    where
-      up : (i j : ℕ) → i < j → j < b .entries → getD index i 0 < getD index j 0
-      up i j g l =
-          omega (
-            arith,
-            rising-at (take (b .entries) index) rising-index i j g (omega (arith, entries-are)),
-            getD-take (b .entries) index i 0 (omega arith),
-            getD-take (b .entries) index j 0 l,
-          )
+  spot-found k = ap (λ (n : ℕ). place index 0 n (entry k 0)) count-is
 
-      p : Placed index (entry k 0) (b .entries) (place index 0 (b .entries) (entry k 0))
-      p = place-placed index (entry k 0) (b .entries) up
+  pub lent-entries : b .entries ≤ length index
+  lent-entries = omega (arith, h .entries-fit, lent)
+
+  pub spot-is : (k : ℕ) → spot b index k ≡ below (entry k 0) (placed 0 ps)
+  spot-is k = spot-found k ∙ search-below index (placed 0 ps) (b .entries) lent-entries (h .index-is) (h .rising) k
 
   pub there-is : (k : ℕ) → there b index k ≡ hit k (placed 0 ps) (below (entry k 0) (placed 0 ps))
   unfolding there
   there-is k =
-      ap₂ (λ (i n : ℕ). pick (ltb i n) (eqb (keyOf (getD index i 0)) k) false) (spot-is k) (count-is ∙ sym entries-are ∙ ap length (h .index-is))
-      ∙ go (true-or (ltb (below (entry k 0) (placed 0 ps)) (length (placed 0 ps))))
-    where
-      go : (ltb (below (entry k 0) (placed 0 ps)) (length (placed 0 ps)) ≡ true) ⊎ (ltb (below (entry k 0) (placed 0 ps)) (length (placed 0 ps)) ≡ false)
-          → pick (ltb (below (entry k 0) (placed 0 ps)) (length (placed 0 ps))) (eqb (keyOf (getD index (below (entry k 0) (placed 0 ps)) 0)) k) false
-          ≡ hit k (placed 0 ps) (below (entry k 0) (placed 0 ps))
-      go (inl t) =
-          let l = ltb-true (below (entry k 0) (placed 0 ps)) (length (placed 0 ps)) t in
-          ap (λ (n : ℕ). pick (ltb (below (entry k 0) (placed 0 ps)) (length (placed 0 ps))) (eqb (keyOf n) k) false)
-          (sym (getD-take (b .entries) index (below (entry k 0) (placed 0 ps)) 0 (omega (arith, entries-are, ap length (h .index-is))))
-          ∙ ap (λ (m : List ℕ). getD m (below (entry k 0) (placed 0 ps)) 0) (h .index-is))
-      go (inr f) = ap (λ (c : Bool). pick c (eqb (keyOf (getD index (below (entry k 0) (placed 0 ps)) 0)) k) false) f ∙ sym (ap (λ (c : Bool). pick c (eqb (keyOf (getD (placed 0 ps) (below (entry k 0) (placed 0 ps)) 0)) k) false) f)
+      ap (λ (n : ℕ). pick (ltb (spot b index k) n) (eqb (keyOf (getD index (spot b index k) 0)) k) false) count-is
+      ∙ search-hit index (placed 0 ps) (b .entries) lent-entries (h .index-is) (h .rising) k (spot-found k)
 
   -- ---- a key looked up
 

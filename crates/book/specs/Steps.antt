@@ -20,8 +20,9 @@ use Rattle.book.specs.Pieces.{lengthOf, live, key, keyAt, of, joined, pl
 use Rattle.book.specs.Sheets.{against, Sheet, accepted}
 use Rattle.book.specs.Stands.{Piece, Sound, Stands, sheet-piece, sound-more, joined-more, placed-more, stands-bytes, stands-sound, sheet-some}
 use Rattle.book.specs.Removed.{VERSIONED, mark, sound-mark, joined-mark, placed-mark, mark-stands}
+use Rattle.book.specs.Searched.{search-put}
 use Rattle.book.specs.Says.{LIMIT, MOST, limit, capacity, bookOf, isKey, count, spot, there, heldAt, seeks}
-use Rattle.book.specs.Held.{Held, few, within, lent, used-is, entries-are, count-is, spot-is, Seen, Unseen, Same, of-same, same-key-of, same-piece}
+use Rattle.book.specs.Held.{Held, few, within, lent, used-is, entries-are, count-is, spot-found, lent-entries, Seen, Unseen, Same, of-same, same-key-of, same-piece}
 use Rattle.book.specs.declared.Book.{Book}
 use Rattle.book.specs.declared.Sought.{Sought}
 use Rattle.book.specs.declared.Sought.the-variants as sought
@@ -68,11 +69,9 @@ module _ {places room : ℕ} {ps : List (List ℕ)} {b : Book} {bytes index : Li
           ∙ ap (λ (l : List ℕ). l ++ S) (h .bytes-are) ∙ sym (joined-more ps S);
       used-fit = fits;
       index-is =
-          ap₂ (λ (i n : ℕ). take (n + 1) (opened index i n x)) (spot-is h (keyAt S)) (count-is h)
-          ∙ opened-front index (below (entry (keyAt S) 0) (placed 0 ps)) (b .entries) x (omega (arith, below-within (entry (keyAt S) 0) (placed 0 ps), entries-are h, ap length (h .index-is))) (omega (arith, lent h))
-          ∙ ap (λ (l : List ℕ). take (below (entry (keyAt S) 0) (placed 0 ps)) l ++ (x ∷ drop (below (entry (keyAt S) 0) (placed 0 ps)) l)) (h .index-is)
-          ∙ ap (λ (i : ℕ). take i (placed 0 ps) ++ (x ∷ drop i (placed 0 ps))) (below-entry (keyAt S) (b .used) (placed 0 ps) starts (new .new))
-          ∙ insert-at x (placed 0 ps) ∙ sym indexed;
+          ap (λ (n : ℕ). take (n + 1) (opened index (spot b index (keyAt S)) n x)) (count-is h)
+          ∙ search-put index (placed 0 ps) (b .entries) (lent-entries h) (h .index-is) (h .rising) (keyAt S) (b .used) (spot-found h (keyAt S)) starts (new .new) (omega (arith, lent h))
+          ∙ sym indexed;
       entries-fit = omega (arith, count-is h);
     }
 
