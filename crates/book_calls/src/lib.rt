@@ -15,7 +15,8 @@ use sheet::Reading;
 pub fn add(book: Book, bytes: &mut [u8], index: &mut [u64], sheet: &[u8]) -> Added
     ensures { λ r. ⌜ (r ≡ addSays book (now (bytes .entry)) (now (index .entry)) (now (sheet .entry))) × (now (bytes .exit) ≡ addBytes book (now (bytes .entry)) (now (index .entry)) (now (sheet .entry))) × (now (index .exit) ≡ addIndex book (now (bytes .entry)) (now (index .entry)) (now (sheet .entry))) ⌝ }
 {
-    let read = sheet_check::check(sheet);
+    let checked = sheet_check::check_either(sheet);
+    let read = checked.reading;
     match read {
         Reading::Fan(mesh, source, _) => puts::put(
             book,

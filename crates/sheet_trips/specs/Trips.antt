@@ -177,7 +177,7 @@ module _ (v : ℕ) (zones : List ℕ) (narrow : Narrow zones) (kind size s : ℕ
       let own : versionOf l ≡ v = ap (λ (y : ℕ). pick (zoned y) ZONED VERSION) (back .version-is) ∙ own-version v (is .known) in
       let z = subst (λ (y : ℕ). ReadZoned y l more others ends lent (r .reading) places₁ counts₁ targets₁ zones₁) own (x .read) in
       let nothing : zonesAgainst v l more others ends lent ≡ none
-            = zones-roomy v l (length more) (length others) (length ends) (length lent) (omega (arith, back .count-is)) ∙ back .no-flaw (length more) (length others) (length ends) a b c in
+      = zones-roomy v l (length more) (length others) (length ends) (length lent) (omega (arith, back .count-is)) ∙ back .no-flaw (length more) (length others) (length ends) a b c in
       record {
         version-is = x .version-is ∙ ap (λ (y : ℕ). settled (zonesAgainst y l more others ends lent) y 0) own ∙ ap (λ (o : Option Flaw). settled o v 0) nothing;
         same = fan-read v zones kind size s targets places counts (is .is-fan) l back more others ends nothing (z .told) (z .held);
@@ -239,7 +239,7 @@ read-writes l bytes places counts targets mesh s k places₁ counts₁ targets�
     let more = drop (length (sheetPlaces VERSION l)) places in
     let others = drop (length (sheetCounts VERSION l)) counts in
     let back = read-write VERSION refl l bytes (length places) (length counts) (length targets) (f .0) more others []
-          (unzoned [] (sheetZones VERSION l) (sheetPaths VERSION l)) (none-stray (length (sheetTargets VERSION l))) out in
+    (unzoned [] (sheetZones VERSION l) (sheetPaths VERSION l)) (none-stray (length (sheetTargets VERSION l))) out in
     sheet-written VERSION l more others [] out back room r out₁
     (wrote-same refl refl (f .1) (f .2) (f .3) (aims VERSION l targets against mesh s k (q .told) (q .held .aimed))
     (q .held .placed ∙ kept VERSION l targets against mesh s k (q .told) _ places) (q .held .counted ∙ kept VERSION l targets against mesh s k (q .told) _ counts)
@@ -262,8 +262,8 @@ zoned-writes l bytes places counts targets zones v mesh s k places₁ counts₁ 
     let enough = ltb-false (length zones) (countAt l) (zones-enough y l (length places) (length counts) (length targets) (length zones) (f .0)) in
     let none-against : readsAgainst y l places counts targets ≡ none = sym (zones-roomy y l (length places) (length counts) (length targets) (length zones) enough) ∙ f .0 in
     let back = read-write y (own-known l) l bytes (length places) (length counts) (length targets) none-against more others (sheetZones y l ++ lent)
-          (lent-front y (own-known l) l bytes (length places) (length counts) (length targets) none-against lent)
-          (lent-stray y (own-known l) l bytes (length places) (length counts) (length targets) none-against lent) out in
+    (lent-front y (own-known l) l bytes (length places) (length counts) (length targets) none-against lent)
+    (lent-stray y (own-known l) l bytes (length places) (length counts) (length targets) none-against lent) out in
     let read-zones : zones₁ ≡ sheetZones y l ++ lent = z .zoned ∙ kept y l targets against mesh s k (z .told) _ zones in
     let read-targets = aims y l targets against mesh s k (z .told) (z .held .aimed) in
     let many : length (take k targets₁) ≡ countAt l = ap length read-targets ∙ targets-length (sourceAt l) (sheetPaths y l) ∙ paths-length y l HEAD (countAt l) in
