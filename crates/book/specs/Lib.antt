@@ -11,3 +11,4 @@ pub mod Plain
 pub mod Held
 pub mod Steps
 pub mod Follows
+pub mod Open
