@@ -4,6 +4,7 @@ mod calls;
 mod frames;
 mod routines;
 mod ways;
+mod zones;
 
 pub use books::gust_book_add;
 pub use books::gust_book_find;
@@ -25,3 +26,7 @@ pub use routines::gust_route;
 pub use routines::gust_survivors;
 pub use routines::gust_write_sheet;
 pub use ways::gust_way_round;
+pub use zones::gust_read_zoned_sheet;
+pub use zones::gust_sheet_to_1;
+pub use zones::gust_sheet_to_2;
+pub use zones::gust_write_zoned_sheet;
