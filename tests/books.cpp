@@ -270,7 +270,7 @@ void refused() {
   r.index.resize(8);
   const Bytes a = form(1, 1, 1, 1, {{0}}), b = form(2, 1, 1, 0, {{1}});
   for (const Bytes &sheet : {a, b}) same("filled", add(r, sheet).number == 0);
-  const auto open = [&](const Bytes &bytes) {
+  const auto open = [](const Bytes &bytes) {
     Index index(8, 7);
     const GustBooked told = gust_book_open(bytes.data(), bytes.size(), index.data(), index.size());
     note("open", told.number);
@@ -287,9 +287,15 @@ void refused() {
     for (int bit = 0; bit < 8; ++bit) {
       Bytes bytes = whole;
       bytes[at] = static_cast<uint8_t>(bytes[at] ^ 1 << bit);
-      const GustBooked told = open(bytes);
-      const bool zone = at >= a.size() + 18 && at < a.size() + 22, gone = at % a.size() == 4 && bytes[at] == 0;
-      same("one bit changed", zone || gone || at == 4 || at == a.size() + 4 ? told.number == 0 || told.number == 53 : told.number == 53 && told.place == (at < a.size() ? 0 : a.size()));
+      // another sheet, or none from one of the two starts on
+      Index index(8);
+      const GustBooked told = gust_book_open(bytes.data(), bytes.size(), index.data(), index.size());
+      if (told.number) same("one bit changed, no book", told.number == 53 && (told.place == 0 || told.place == a.size()));
+      else {
+        index.resize(told.book.entries);
+        same("one bit changed, another", told.book.used == bytes.size() && index == afresh(bytes, bytes.size()));
+      }
+      if (at < 4 || at == 7 || (at >= 16 && at < 18)) same("a length, a count or hops", told.number == 53 && told.place == 0);
     }
   Bytes twice = whole;
   twice.insert(twice.end(), a.begin(), a.end());
