@@ -4,3 +4,4 @@ pub mod Pieces
 pub mod Enters
 pub mod Opens
 pub mod Keeps
+pub mod Restart

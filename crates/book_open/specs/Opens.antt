@@ -52,7 +52,7 @@ going-starts bytes room places h = record {
 }
 
 -- one step
-open-step : (steps places at : ℕ) (l index : List ℕ) → 0 < length l → 0 < steps
+pub open-step : (steps places at : ℕ) (l index : List ℕ) → 0 < length l → 0 < steps
     → openFrom steps places at l index
     ≡ pick (eqb (pieceLength at l) 0) (bad at) (goOn at (enters places l index) (openFrom (steps - 1) places (at + pieceLength at l) (drop (pieceLength at l) l) (entersIndex at l index)))
 unfolding openFrom
@@ -63,7 +63,7 @@ open-step (suc steps) places at (x ∷ l) index h g =
     ap (λ (k : ℕ). pick (eqb (pieceLength at (x ∷ l)) 0) (bad at)
     (goOn at (enters places (x ∷ l) index) (openFrom k places (at + pieceLength at (x ∷ l)) (drop (pieceLength at (x ∷ l)) (x ∷ l)) (entersIndex at (x ∷ l) index)))) e
 
-open-none : (steps places at : ℕ) (index : List ℕ) → openFrom steps places at [] index ≡ done index
+pub open-none : (steps places at : ℕ) (index : List ℕ) → openFrom steps places at [] index ≡ done index
 unfolding openFrom
 open-none zero places at index = refl
 open-none (suc steps) places at index = refl

@@ -23,7 +23,7 @@ module _ (at : ℕ) (l : List ℕ) where
   abbrev pub pieceBy : (a b c d v : Bool) → Option Flaw → ℕ
   pieceBy a b c d v o = pick a 0 (pick b 0 (pick c 0 (pick d 0 (pick v (fineLength o (lengthOf l)) (lengthOf l)))))
 
-  piece-is : {a b c d v : Bool} {o : Option Flaw} → ltb (length l) HEAD ≡ a → ltb (lengthOf l) HEAD ≡ b → ltb (length l) (lengthOf l) ≡ c → ltb LIMIT (at + lengthOf l) ≡ d → live l ≡ v
+  pub piece-is : {a b c d v : Bool} {o : Option Flaw} → ltb (length l) HEAD ≡ a → ltb (lengthOf l) HEAD ≡ b → ltb (length l) (lengthOf l) ≡ c → ltb LIMIT (at + lengthOf l) ≡ d → live l ≡ v
       → against (take (lengthOf l) l) ≡ o → pieceLength at l ≡ pieceBy a b c d v o
   unfolding pieceLength
   piece-is {a} {b} {c} {d} {v} {o} pa pb pc pd pv po =
