@@ -312,10 +312,33 @@ void refused() {
   same("an empty book", gust_book_open(nullptr, 0, nullptr, 0).number == 0);
 }
 
+// The example of docs/BOOKS.md, call by call.
+void worked() {
+  Room r;
+  r.bytes.resize(60, 9);
+  r.index.resize(256);
+  const uint64_t low = 35321811042304;
+  const Bytes one = form(1, 1, 1, 1, {{0}}), zero = form(1, 1, 1, 0, {{1}}), other = form(1, 1, 2, 0, {{1}});
+  same("source 1", add(r, one).number == 0 && r.head.used == 26 && r.head.entries == 1 && r.index[0] == (low + 1) << 16);
+  same("source 0", add(r, zero).number == 0 && r.head.used == 52 && r.head.entries == 2 && r.index[0] == (low << 16 | 26) && r.index[1] == (low + 1) << 16);
+  same("again", add(r, zero).number == 39);
+  const GustFound found = find(r, {1, 1, 1});
+  same("found", found.number == 0 && found.start == 0 && found.length == 26 && find(r, {1, 1, 0}).start == 26);
+  same("no room", add(r, other).number == 8);
+  same("removed", remove(r, {1, 1, 1}).number == 0 && r.bytes[4] == 0 && r.head.used == 52 && r.head.entries == 1 && r.index[0] == (low << 16 | 26));
+  same("not there", find(r, {1, 1, 1}).number == 51 && remove(r, {1, 1, 1}).number == 51);
+  same("removed ones counted", add(r, other).number == 8 && r.bytes[52] == 9);
+  Room full;
+  full.bytes.resize(65536);
+  full.index.resize(1);
+  same("one place", add(full, zero).number == 0 && add(full, one).number == 40 && add(full, zero).number == 39 && add(full, {}).number == 30 && add(full, form(1, 1, 1, 0, {{0}})).number == 6);
+}
+
 }  // namespace
 
 int main(int count, char **) {
   const bool small = count > 1;
+  worked();
   refused();
   for (int i = 0; i < (small ? 2 : 20); ++i) {
     sequence(300, 256, small ? 100 : 1000, 6);
