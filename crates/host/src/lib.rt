@@ -1,4 +1,5 @@
 // The library for programs in C and C++: every routine as an exported function over numbers and slices. include/gustparsley.h declares them.
+mod books;
 mod calls;
 mod frames;
 mod graphs;
@@ -6,6 +7,10 @@ mod routines;
 mod ways;
 mod zones;
 
+pub use books::gust_book_add;
+pub use books::gust_book_find;
+pub use books::gust_book_open;
+pub use books::gust_book_remove;
 pub use calls::gust_next_hop;
 pub use calls::gust_plan;
 pub use frames::gust_arrive;

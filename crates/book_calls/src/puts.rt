@@ -1,0 +1,56 @@
+// A sheet that is accepted put into a book.
+ghost use mathlib.Core.Path.{_≡_};
+ghost use mathlib.Core.Option.{none};
+ghost use lib.ListN.{length};
+ghost use Rattle.book.specs.Pieces.{keyAt};
+ghost use Rattle.book.specs.Sheets.{against};
+ghost use Rattle.book.specs.Says as says;
+use book::Added;
+use book::Book;
+
+// Whether there is no room for the sheet after the last one.
+fn short(book: Book, bytes: &[u8], sheet: &[u8]) -> bool
+    ensures { λ r. ⌜ r ≡ says.short book (now (bytes .entry)) (now (sheet .entry)) ⌝ }
+{
+    let room = book_keys::lesser(65536, bytes.len());
+    let n = sheet.len();
+    if room < n {
+        return true;
+    }
+    room - n < book.used
+}
+
+// Whether no place of the index is left.
+fn full(book: Book, index: &[u64]) -> bool
+    ensures { λ r. ⌜ r ≡ says.full book (now (index .entry)) ⌝ }
+{
+    book_keys::lesser(256, index.len()) <= book_keys::count(book, index)
+}
+
+// Puts a sheet that was checked behind the last one, and its place into the index.
+pub fn put(book: Book, bytes: &mut [u8], index: &mut [u64], sheet: &[u8], key: u64) -> Added
+    requires { ⌜ (against (now sheet) ≡ none) × (key ≡ keyAt (now sheet)) ⌝ }
+    ensures { λ r. ⌜ (r ≡ says.addSays book (now (bytes .entry)) (now (index .entry)) (now (sheet .entry))) × (now (bytes .exit) ≡ says.addBytes book (now (bytes .entry)) (now (index .entry)) (now (sheet .entry))) × (now (index .exit) ≡ says.addIndex book (now (bytes .entry)) (now (index .entry)) (now (sheet .entry))) ⌝ }
+{
+    let n = book_keys::count(book, index);
+    let i = book_parts::place(index, n, key * 65536);
+    let stands = book_keys::there(index, n, i, key);
+    let filled = full(book, index);
+    let lacking = short(book, bytes, sheet);
+    if stands {
+        return Added::There;
+    }
+    if filled {
+        return Added::Full;
+    }
+    if lacking {
+        return Added::NoRoom;
+    }
+    let used = book.used;
+    book_parts::insert(index, i, n, key * 65536 + used as u64);
+    book_parts::copy(sheet, used, bytes);
+    Added::Done(Book {
+        used: used + sheet.len(),
+        entries: n + 1,
+    })
+}
