@@ -3,9 +3,9 @@
 use Prim.Native.Nat.{ℕ, _+_, _-_, min}
 use mathlib.Core.Bool.{Bool, true, false}
 use mathlib.Core.Option.{Option, none, some}
-use mathlib.Core.List.{List}
+use mathlib.Core.List.{List, map}
 use lib.Dec.{eqb, ltb, leb}
-use lib.ListN.{length, getD, set}
+use lib.ListN.{length, getD, set, take}
 use lib.Seq.{sets}
 use Rattle.scan.specs.Scan.{pick}
 use Rattle.octets.specs.Big.{number}
@@ -17,6 +17,7 @@ use Rattle.book.specs.Ordered.{entry, keyOf, startOf}
 use Rattle.book.specs.Pieces.{SOURCES, key, keyAt}
 use Rattle.book.specs.Sheets.{against}
 use Rattle.book.specs.Removed.{VERSIONED}
+use Rattle.book.specs.Closed.{kept, slid}
 use Rattle.book.specs.declared.Book.{Book}
 use Rattle.book.specs.declared.Added.{Added}
 use Rattle.book.specs.declared.Added.the-variants as added
@@ -59,6 +60,23 @@ module _ (b : Book) (index : List ℕ) where
   -- whether it stands there
   unfoldable pub there : (key : ℕ) → Bool
   there key = pick (ltb (spot key) count) (eqb (keyOf (getD index (spot key) 0)) key) false
+
+-- ---- closing up
+
+-- the bytes in use that are looked at
+unfoldable pub inUse : (b : Book) (bytes : List ℕ) → List ℕ
+inUse b bytes = take (min (b .used) (limit bytes)) bytes
+
+-- live sheets move down in their order, and the bytes from the new end on stay; each place of the index tells where its sheet then starts
+module _ (b : Book) (bytes index : List ℕ) where
+  unfoldable pub closeBook : Book
+  closeBook = bookOf (length (kept (inUse b bytes))) (count b index)
+
+  unfoldable pub closeBytes : List ℕ
+  closeBytes = sets bytes 0 (kept (inUse b bytes))
+
+  unfoldable pub closeIndex : List ℕ
+  closeIndex = sets index 0 (map (slid (inUse b bytes)) (take (count b index) index))
 
 -- ---- adding
 
