@@ -12,3 +12,4 @@ pub mod Plain
 pub mod Held
 pub mod Steps
 pub mod Follows
+pub mod Open

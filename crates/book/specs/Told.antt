@@ -8,6 +8,8 @@ use Rattle.book.specs.declared.Found.{Found}
 use Rattle.book.specs.declared.Found.the-variants as found
 use Rattle.book.specs.declared.Removed.{Removed}
 use Rattle.book.specs.declared.Removed.the-variants as removed
+use Rattle.book.specs.declared.Opened.{Opened}
+use Rattle.book.specs.declared.Opened.the-variants as opened
 
 abbrev pub addedNumber : Added → ℕ
 addedNumber (added.Done b) = 0
@@ -56,3 +58,18 @@ removedNumber removed.Missing = 51
 abbrev pub removedBook : Removed → Book → Book
 removedBook (removed.Done b) was = b
 removedBook removed.Missing was = was
+
+abbrev pub openedNumber : Opened → ℕ
+openedNumber (opened.Done b) = 0
+openedNumber (opened.Bad s) = 53
+openedNumber opened.Full = 40
+
+abbrev pub openedPlace : Opened → ℕ
+openedPlace (opened.Done b) = 0
+openedPlace (opened.Bad s) = s
+openedPlace opened.Full = 0
+
+abbrev pub openedBook : Opened → Book → Book
+openedBook (opened.Done b) was = b
+openedBook (opened.Bad s) was = was
+openedBook opened.Full was = was

@@ -47,6 +47,25 @@ pub enum Removed {
     Missing,
 }
 
+// What becomes of bytes that are to be opened as a book, with its head.
+pub enum Opened {
+    // 0
+    Done(Book),
+    // 53, with its start as the place: no accepted or removed sheet, or one whose kind, size and source are there already
+    Bad(usize),
+    // 40: the index is too short
+    Full,
+}
+
+// What becomes of one piece of them.
+pub enum Entered {
+    // how many places the index has then
+    More(usize),
+    // its key is there already
+    Again,
+    Full,
+}
+
 impl Added {
     // 0, or the number of what stands against it.
     pub fn number(self) -> u64
@@ -151,6 +170,41 @@ impl Removed {
         match self {
             Removed::Done(b) => b,
             Removed::Missing => was,
+        }
+    }
+}
+
+impl Opened {
+    // 0, 53 or 40.
+    pub fn number(self) -> u64
+        ensures { λ r. ⌜ r ≡ told.openedNumber self ⌝ }
+    {
+        match self {
+            Opened::Done(_) => 0,
+            Opened::Bad(_) => 53,
+            Opened::Full => 40,
+        }
+    }
+
+    // The start that 53 tells, and 0 of all else.
+    pub fn place(self) -> usize
+        ensures { λ r. ⌜ r ≡ told.openedPlace self ⌝ }
+    {
+        match self {
+            Opened::Done(_) => 0,
+            Opened::Bad(start) => start,
+            Opened::Full => 0,
+        }
+    }
+
+    // The head, and the one before where it is refused.
+    pub fn book(self, was: Book) -> Book
+        ensures { λ r. ⌜ r ≡ told.openedBook self was ⌝ }
+    {
+        match self {
+            Opened::Done(b) => b,
+            Opened::Bad(_) => was,
+            Opened::Full => was,
         }
     }
 }

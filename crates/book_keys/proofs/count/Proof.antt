@@ -1,6 +1,5 @@
 -- `book_keys::count` meets its contract. Assumes nothing.
 use Rattle.book_keys.specs.Cases.{count-is}
-use borrow.Author.Needs.{needs}
 use Rattle.book_keys.proofs.count.Statement.{statement}
 use Rattle.book_keys.proofs.count.Tie as tie
 

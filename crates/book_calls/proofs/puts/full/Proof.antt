@@ -1,6 +1,5 @@
 -- `book_calls::puts::full` meets its contract. Assumes nothing.
 use Rattle.book_calls.specs.Cases.{full-is}
-use borrow.Author.Needs.{needs}
 use Rattle.book_calls.proofs.puts.full.Statement.{statement}
 use Rattle.book_calls.proofs.puts.full.Tie as tie
 

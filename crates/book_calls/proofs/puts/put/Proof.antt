@@ -5,7 +5,6 @@ use native.Mathlib.Omega.{arith}
 use Rattle.book.specs.Sheets.{accepted}
 use Rattle.book_keys.specs.Cases.{key-small, count-lent}
 use Rattle.book_calls.specs.Cases.{short-fits, full-room, code-spot, code-stands, code-place, put-there, put-full, put-short, put-done}
-use borrow.Author.Needs.{needs}
 use Rattle.book_calls.proofs.puts.put.Statement.{statement}
 use Rattle.book_calls.proofs.puts.put.Tie as tie
 

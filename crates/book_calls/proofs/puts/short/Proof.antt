@@ -1,6 +1,5 @@
 -- `book_calls::puts::short` meets its contract. Assumes nothing.
 use Rattle.book_calls.specs.Cases.{short-long, short-rest}
-use borrow.Author.Needs.{needs}
 use Rattle.book_calls.proofs.puts.short.Statement.{statement}
 use Rattle.book_calls.proofs.puts.short.Tie as tie
 

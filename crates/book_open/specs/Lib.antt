@@ -1,0 +1,6 @@
+-- A book opened again.
+pub mod Needs
+pub mod Pieces
+pub mod Enters
+pub mod Opens
+pub mod Keeps
