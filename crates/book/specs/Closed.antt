@@ -17,7 +17,8 @@ use Rattle.paths.specs.Lists.{In}
 use Rattle.sheet.specs.Format.{HEAD}
 use Rattle.book.specs.Ordered.{STARTS, entry, keyOf, startOf, insert, Rising, in-insert, insert-in}
 use Rattle.book.specs.Pieces.{lengthOf, live, keyAt, of, joined, placed, sheetOf}
-use Rattle.book.specs.Stands.{Piece, Sound, length-front, live-front}
+use Rattle.book.specs.Stands.{Piece, Sound, Stands, length-front, live-front}
+use Rattle.book.specs.Removed.{gone, mark, gone-live, mark-here, mark-later, beyond}
 
 -- ---- definitions
 
@@ -288,3 +289,23 @@ module _ (l : List ℕ) where
 pub placed-lives : (ps : List (List ℕ)) → Sound ps → length (joined ps) ≤ STARTS → Rising (placed 0 ps) → placed 0 (lives ps) ≡ map (slid (joined ps)) (placed 0 ps)
 unfolding joined lives
 placed-lives ps d h r = placed-behind (joined ps) [] ps tt d refl h r
+
+-- ---- a piece that is removed
+
+-- its bytes are live ones no more
+pub lives-mark : (from s : ℕ) (p : List ℕ) (ps : List (List ℕ)) → Sound ps → Stands from ps s p → live p ≡ true → length (joined (lives ps)) ≡ length p + length (joined (lives (mark from s ps)))
+unfolding lives joined
+lives-mark from s p (q ∷ ps) d (inl g) l =
+    let own : live q ≡ true = ap live (sym (g .1)) ∙ l in
+    let gone-now = gone-live q (omega (arith, d .0 .long)) in
+    ap (λ (b : Bool). length (joined (pick b (q ∷ lives ps) (lives ps)))) own ∙ length-append q (joined (lives ps))
+    ∙ ap₂ (λ (k : List ℕ) (r : List (List ℕ)). length k + length (joined r)) (sym (g .1))
+    (sym (ap lives (mark-here from s q ps (g .0)) ∙ ap (λ (b : Bool). pick b (gone q ∷ lives ps) (lives ps)) gone-now))
+lives-mark from s p (q ∷ ps) d (inr g) l =
+    go (live q) (lives-mark (from + length q) s p ps (d .1) g l)
+    ∙ ap (λ (r : List (List ℕ)). length p + length (joined (lives r))) (sym (mark-later from s q ps (beyond from s q ps (d .0) p g)))
+  where
+    go : (b : Bool) → length (joined (lives ps)) ≡ length p + length (joined (lives (mark (from + length q) s ps)))
+        → length (joined (pick b (q ∷ lives ps) (lives ps))) ≡ length p + length (joined (pick b (q ∷ lives (mark (from + length q) s ps)) (lives (mark (from + length q) s ps))))
+    go true r = length-append q (joined (lives ps)) ∙ omega (arith, r, length-append q (joined (lives (mark (from + length q) s ps))))
+    go false r = r

@@ -97,19 +97,49 @@ ifAdded added.NoRoom x y = y
 unfoldable pub full : (b : Book) (index : List ℕ) → Bool
 full b index = leb (capacity index) (count b index)
 
--- no room is left after the last sheet
+-- no room is left after the last sheet, removed ones counted
 unfoldable pub short : (b : Book) (bytes sheet : List ℕ) → Bool
 short b bytes sheet = ltb (limit bytes) (b .used + length sheet)
 
+-- behind the last sheet
+module _ (b : Book) (bytes index sheet : List ℕ) where
+  unfoldable pub endSays : Added
+  endSays = addBy (against sheet) (there b index (keyAt sheet)) (full b index) (short b bytes sheet) (bookOf (b .used + length sheet) (count b index + 1))
+
+  unfoldable pub endBytes : List ℕ
+  endBytes = ifAdded endSays (sets bytes (b .used) sheet) bytes
+
+  unfoldable pub endIndex : List ℕ
+  endIndex = ifAdded endSays (opened index (spot b index (keyAt sheet)) (count b index) (entry (keyAt sheet) (b .used))) index
+
+-- the one where there was no room, else the other
+abbrev pub ifNoRoom : {A : Type 0} → Added → A → A → A
+ifNoRoom added.NoRoom x y = x
+ifNoRoom (added.Done b) x y = y
+ifNoRoom (added.Flawed f) x y = y
+ifNoRoom added.There x y = y
+ifNoRoom added.Full x y = y
+
+-- no room is left with the live sheets alone
+unfoldable pub crammed : (b : Book) (bytes sheet : List ℕ) → Bool
+crammed b bytes sheet = ltb (limit bytes) (length (kept (inUse b bytes)) + length sheet)
+
+-- where there is no room behind the last sheet the book is closed up first, if there is room then
 module _ (b : Book) (bytes index sheet : List ℕ) where
   unfoldable pub addSays : Added
-  addSays = addBy (against sheet) (there b index (keyAt sheet)) (full b index) (short b bytes sheet) (bookOf (b .used + length sheet) (count b index + 1))
+  addSays =
+      ifNoRoom (endSays b bytes index sheet) (pick (crammed b bytes sheet) added.NoRoom (endSays (closeBook b bytes index) (closeBytes b bytes index) (closeIndex b bytes index) sheet))
+      (endSays b bytes index sheet)
 
   unfoldable pub addBytes : List ℕ
-  addBytes = ifAdded addSays (sets bytes (b .used) sheet) bytes
+  addBytes =
+      ifNoRoom (endSays b bytes index sheet) (pick (crammed b bytes sheet) bytes (endBytes (closeBook b bytes index) (closeBytes b bytes index) (closeIndex b bytes index) sheet))
+      (endBytes b bytes index sheet)
 
   unfoldable pub addIndex : List ℕ
-  addIndex = ifAdded addSays (opened index (spot b index (keyAt sheet)) (count b index) (entry (keyAt sheet) (b .used))) index
+  addIndex =
+      ifNoRoom (endSays b bytes index sheet) (pick (crammed b bytes sheet) index (endIndex (closeBook b bytes index) (closeBytes b bytes index) (closeIndex b bytes index) sheet))
+      (endIndex b bytes index sheet)
 
 -- ---- finding and removing
 

@@ -30,7 +30,7 @@ fn full(book: Book, index: &[u64]) -> bool
 // Puts a sheet that was checked behind the last one, and its place into the index.
 pub fn put(book: Book, bytes: &mut [u8], index: &mut [u64], sheet: &[u8], key: u64) -> Added
     requires { ⌜ (against (now sheet) ≡ none) × (key ≡ keyAt (now sheet)) ⌝ }
-    ensures { λ r. ⌜ (r ≡ says.addSays book (now (bytes .entry)) (now (index .entry)) (now (sheet .entry))) × (now (bytes .exit) ≡ says.addBytes book (now (bytes .entry)) (now (index .entry)) (now (sheet .entry))) × (now (index .exit) ≡ says.addIndex book (now (bytes .entry)) (now (index .entry)) (now (sheet .entry))) ⌝ }
+    ensures { λ r. ⌜ (r ≡ says.endSays book (now (bytes .entry)) (now (index .entry)) (now (sheet .entry))) × (now (bytes .exit) ≡ says.endBytes book (now (bytes .entry)) (now (index .entry)) (now (sheet .entry))) × (now (index .exit) ≡ says.endIndex book (now (bytes .entry)) (now (index .entry)) (now (sheet .entry))) ⌝ }
 {
     let n = book_keys::count(book, index);
     let i = book_parts::place(index, n, key * 65536);
