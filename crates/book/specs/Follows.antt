@@ -26,7 +26,7 @@ use Rattle.book.specs.Says.{capacity, limit, bookOf, ifNoRoom, crammed, 
 use Rattle.book.specs.Told.{addedNumber, addedPath, addedPlace, addedBook, removedNumber, removedBook}
 use Rattle.book.specs.Held.{Held, few, within, lent, used-is, entries-are, count-is, Seen, Unseen, Same, of-same, same-of, is-keyed, lookup, unkeyed}
 use Rattle.book.specs.Steps.{held-add, held-remove, held-close, closed-bytes, closed-used, lives-long, seen-bytes, seeks-seen, sheet-gone}
-use Rattle.book.specs.Plain.{Call, add, find, remove, close, Answer, tell, number, Map, with, less, Plain, empty, has, addTold, settled, findTold, removeTold, ifSome, plainAnswer, plainAfter, plainTells, State, foundTold, answer, step, tells, after, fresh}
+use Rattle.book.specs.Plain.{Call, add, find, remove, close, Answer, tell, number, Map, with, less, Plain, empty, has, addTold, settled, findTold, removeTold, ifSome, plainAnswer, plainAfter, plainTells, plainEnd, State, foundTold, answer, step, tells, after, fresh}
 use Rattle.book.specs.declared.Book.{Book}
 use Rattle.book.specs.declared.Added.{Added}
 use Rattle.book.specs.declared.Added.the-variants as added
@@ -447,10 +447,10 @@ unfolding tells plainTells
 tells-on st k [] = refl
 tells-on {places} {room} {m} st k (c ∷ cs) = ap₂ (λ (a : Answer) (l : List Answer). a ∷ l) (told-step st k c) (tells-on (step st c) (kept-step st k c) cs)
 
-kept-after : {places room : ℕ} {m : Plain} (st : State) → KeptIn places room m st → (cs : List Call) → (n : Plain) × KeptIn places room n (after st cs)
-unfolding after
-kept-after {m = m} st k [] = (m, k)
-kept-after {places} {room} {m} st k (c ∷ cs) = kept-after (step st c) (kept-step st k c) cs
+kept-after : {places room : ℕ} {m : Plain} (st : State) → KeptIn places room m st → (cs : List Call) → KeptIn places room (plainEnd places room m cs) (after st cs)
+unfolding after plainEnd
+kept-after st k [] = k
+kept-after st k (c ∷ cs) = kept-after (step st c) (kept-step st k c) cs
 
 pub kept-fresh : (bytes index : List ℕ) → KeptIn (capacity index) (limit bytes) empty (fresh bytes index)
 unfolding joined placed sheetOf lives
@@ -466,9 +466,25 @@ kept-fresh bytes index = record {
 pub book-follows : (bytes index : List ℕ) (cs : List Call) → tells (fresh bytes index) cs ≡ plainTells (capacity index) (limit bytes) empty cs
 book-follows bytes index cs = tells-on (fresh bytes index) (kept-fresh bytes index) cs
 
+-- a book after calls, and the map after them
+pub followed : (bytes index : List ℕ) (cs : List Call) → KeptIn (capacity index) (limit bytes) (plainEnd (capacity index) (limit bytes) empty cs) (after (fresh bytes index) cs)
+followed bytes index cs = kept-after (fresh bytes index) (kept-fresh bytes index) cs
+
 -- and its index is the one worked out afresh
 pub index-afresh : (bytes index : List ℕ) (cs : List Call) → let st = after (fresh bytes index) cs in take (st .head .entries) (st .index) ≡ afresh (take (st .head .used) (st .bytes))
-index-afresh bytes index cs = go (kept-after (fresh bytes index) (kept-fresh bytes index) cs)
-  where
-    go : {places room : ℕ} {st : State} → (n : Plain) × KeptIn places room n st → take (st .head .entries) (st .index) ≡ afresh (take (st .head .used) (st .bytes))
-    go (n, k) = k .held .index-is ∙ sym (afresh-joined (k .pieces) (k .held .sound)) ∙ ap afresh (sym (k .held .bytes-are))
+index-afresh bytes index cs =
+    let k = followed bytes index cs in
+    k .held .index-is ∙ sym (afresh-joined (k .pieces) (k .held .sound)) ∙ ap afresh (sym (k .held .bytes-are))
+
+-- closed up, it has as many bytes in use as were added less those removed: the live sheets, one after another
+pub closed-counted : (bytes index : List ℕ) (cs : List Call) → let st = after (fresh bytes index) cs in
+    closeBook (st .head) (st .bytes) (st .index) .used ≡ plainEnd (capacity index) (limit bytes) empty cs .used
+closed-counted bytes index cs = let k = followed bytes index cs in closed-used (k .held) ∙ sym (k .used-are)
+
+-- and every sheet is found that was found before
+pub closed-finds : (bytes index : List ℕ) (cs : List Call) (kind size source : ℕ) → let st = after (fresh bytes index) cs in answer (step st close) (find kind size source) ≡ answer st (find kind size source)
+unfolding plainAfter
+closed-finds bytes index cs kind size source =
+    let st = after (fresh bytes index) cs in
+    let k = followed bytes index cs in
+    told-step (step st close) (kept-step st k close) (find kind size source) ∙ sym (told-step st k (find kind size source))
