@@ -19,8 +19,8 @@
  * two-level mesh the slot's bits, then the block's.
  *
  * Refusals. Every call tells a number, 0 where all is well, and with some numbers a place or a path. No call that tells a number other than 0 changes
- * any slice, and then every other value it returns is 0, but for the working room of gust_way_round with 45, and the record that gust_arrive gives back as it was. Where several numbers apply, the first
- * in the order given with each function is told. */
+ * any slice, and then every other value it returns is 0, but for the working room of gust_way_round with 45, the record that gust_arrive gives back as it was, and
+ * the head that the calls of a book do. Where several numbers apply, the first in the order given with each function is told. */
 #ifndef GUSTPARSLEY_H
 #define GUSTPARSLEY_H
 
@@ -71,6 +71,8 @@ enum {
   GUST_LEFT_OVER = 36,       /* bytes are left over */
   GUST_LONE_PATH = 37,       /* a sheet with a single path of a two-level mesh */
   /* Frames that arrive: */
+  GUST_BOOK_THERE = 39,      /* the book has a sheet of this kind, size and source */
+  GUST_BOOK_FULL = 40,       /* the index of the book is full */
   GUST_FRAME_SEEN = 41,      /* a frame of this number was passed before */
   GUST_FRAME_OLD = 42,       /* the number is neither ahead of the newest nor among the newest 64 */
   /* Ways round what has stopped: */
@@ -78,7 +80,9 @@ enum {
   GUST_TARGET_STOPPED = 44,  /* the target has stopped */
   GUST_NO_PATH = 45,         /* no path of running relays joins the two */
   /* Kinds of mesh: */
-  GUST_NOT_SERVED = 52       /* the routine does not serve this kind */
+  GUST_BOOK_MISSING = 51,    /* the book has no sheet of this kind, size and source */
+  GUST_NOT_SERVED = 52,      /* the routine does not serve this kind */
+  GUST_BOOK_BAD = 53         /* no accepted or removed sheet, or one whose kind, size and source stand earlier in the book; its start */
 };
 
 /* ---- the region host's two calls. Each returns number * 256 + place, so 0 for success. (Every place told here is below 256.) */
@@ -214,6 +218,43 @@ typedef struct GustArrival {
  * 32,767 ahead of the newest, and then it becomes the newest; and where it is among the 64 newest, the newest included, and unmarked. The record to keep comes
  * back, which is the one given where the frame is refused. Numbers: 41 for one of the 64 newest that is marked, 42 for any other. */
 GustArrival gust_arrive(GustRecord record, uint16_t number);
+
+/* ---- books of sheets */
+
+/* A book keeps sheets of both versions in bytes that the caller owns, one after another, and beside them an index in order of kind, size and source. Its head is two
+ * numbers, which the caller keeps: how many bytes are in use, removed sheets counted, and how many places of the index. All zero is an empty book, over any slices.
+ * Of the bytes lent at most the first 65,536 are used, of the index at most 256 places. Lend the same bytes and index, and the head that came back, to each call.
+ * docs/BOOKS.md has both byte by byte. A book in which something else was written is not read or written beyond what is lent, but may answer anything. */
+typedef struct GustBook {
+  size_t used, entries;
+} GustBook;
+
+/* What becomes of a call, and the head to keep, which is the one given where it is refused. */
+typedef struct GustBooked {
+  uint64_t number, path, place;
+  GustBook book;
+} GustBooked;
+
+/* Where a sheet starts in the bytes, and its length. */
+typedef struct GustFound {
+  uint64_t number, start, length;
+} GustFound;
+
+/* Adds one sheet behind the last. Numbers: what reading it would tell but 8, with path and place (30, 31, 32, 33, 37, 34, 36, 2, 5, 6, 7, 22, 24); then 39, 40, and
+ * 8 where there is no room after the last sheet. A refusal changes nothing. */
+GustBooked gust_book_add(GustBook book, uint8_t *bytes, size_t bytes_len, uint64_t *index, size_t index_len, const uint8_t *sheet, size_t sheet_len);
+
+/* Finds the sheet of a kind, a size and a source: it is the `length` bytes from `start` on, which lie within the bytes lent. Number: 51. */
+GustFound gust_book_find(GustBook book, const uint8_t *bytes, size_t bytes_len, const uint64_t *index, size_t index_len, uint64_t kind, uint64_t size,
+                         uint64_t source);
+
+/* Removes it: its version byte becomes 0, and its place goes out of the index. Its bytes stay in use. Number: 51, and then nothing is changed. */
+GustBooked gust_book_remove(GustBook book, uint8_t *bytes, size_t bytes_len, uint64_t *index, size_t index_len, uint64_t kind, uint64_t size, uint64_t source);
+
+/* What a restarting host calls: given exactly the used bytes of a book, works the index out afresh and gives the head. Numbers: 53 with the start of the first piece that
+ * is no accepted or removed sheet, or whose kind, size and source stand earlier; 40 where the index is too short. Then nothing is changed, and the head is that of an
+ * empty book. */
+GustBooked gust_book_open(const uint8_t *bytes, size_t bytes_len, uint64_t *index, size_t index_len);
 
 #ifdef __cplusplus
 }

@@ -48,13 +48,16 @@ fn put_last(book: Book, bytes: &mut [u8], index: &mut [u64], sheet: &[u8], key: 
 {
     let n = book_keys::count(book, index);
     let i = book_parts::place(index, n, key * 65536);
-    if book_keys::there(index, n, i, key) {
+    let stands = book_keys::there(index, n, i, key);
+    let filled = full(book, index);
+    let lacking = short(book, bytes, sheet);
+    if stands {
         return Added::There;
     }
-    if full(book, index) {
+    if filled {
         return Added::Full;
     }
-    if short(book, bytes, sheet) {
+    if lacking {
         return Added::NoRoom;
     }
     let used = book.used;

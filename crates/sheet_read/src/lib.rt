@@ -46,17 +46,8 @@ fn body(
     if let Reading::Refused(f) = checked {
         return Reading::Refused(f);
     }
-    let longest = mesh::places_in(mesh) - 1;
-    sheet_take::take_paths(
-        version,
-        bytes,
-        source,
-        longest as usize,
-        k,
-        places,
-        counts,
-        targets,
-    );
+    let longest = (mesh::places_in(mesh) - 1) as usize;
+    sheet_take::take_paths(version, bytes, source, longest, k, places, counts, targets);
     Reading::Fan(mesh, source, k)
 }
 

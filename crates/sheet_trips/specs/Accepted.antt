@@ -117,7 +117,7 @@ pub record Granted (alone other : Bool) (stray : Spot) (n bytes room : ℕ) : Ty
   pub unzoned : stray ≡ nowhere
   pub fits : bytes ≤ room
 
-stray-none : (x : Spot) → strayFlaw x ≡ none → x ≡ nowhere
+pub stray-none : (x : Spot) → strayFlaw x ≡ none → x ≡ nowhere
 stray-none nowhere e = refl
 stray-none (at i) e = no-flaw e
 

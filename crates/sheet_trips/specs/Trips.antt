@@ -43,7 +43,7 @@ use Rattle.sheet_trips.specs.TripsWrite.{WritesBack, lent-front, lent-st
 use Rattle.sheet_trips.specs.Zones.{unzoned, zones-read}
 
 -- a result that is no refusal: nothing stood against it
-wrote-fine : (o : Option Flaw) (n bytes : ℕ) → wrote 0 0 0 n ≡ tellWritten o bytes → (o ≡ none) × (n ≡ bytes)
+pub wrote-fine : (o : Option Flaw) (n bytes : ℕ) → wrote 0 0 0 n ≡ tellWritten o bytes → (o ≡ none) × (n ≡ bytes)
 wrote-fine none n bytes e = (refl, cc)
 wrote-fine (some f) n bytes e = let z : flawNumber f ≡ 0 = cc in absurd (eqb-false (flawNumber f) 0 (flaw-some f) z)
 
@@ -262,8 +262,8 @@ zoned-writes l bytes places counts targets zones v mesh s k places₁ counts₁ 
     let enough = ltb-false (length zones) (countAt l) (zones-enough y l (length places) (length counts) (length targets) (length zones) (f .0)) in
     let none-against : readsAgainst y l places counts targets ≡ none = sym (zones-roomy y l (length places) (length counts) (length targets) (length zones) enough) ∙ f .0 in
     let back = read-write y (own-known l) l bytes (length places) (length counts) (length targets) none-against more others (sheetZones y l ++ lent)
-    (lent-front y (own-known l) l bytes (length places) (length counts) (length targets) none-against lent)
-    (lent-stray y (own-known l) l bytes (length places) (length counts) (length targets) none-against lent) out in
+    (lent-front y l (length places) (length counts) (length targets) none-against lent)
+    (lent-stray y l (length places) (length counts) (length targets) none-against lent) out in
     let read-zones : zones₁ ≡ sheetZones y l ++ lent = z .zoned ∙ kept y l targets against mesh s k (z .told) _ zones in
     let read-targets = aims y l targets against mesh s k (z .told) (z .held .aimed) in
     let many : length (take k targets₁) ≡ countAt l = ap length read-targets ∙ targets-length (sourceAt l) (sheetPaths y l) ∙ paths-length y l HEAD (countAt l) in

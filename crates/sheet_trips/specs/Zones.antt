@@ -1,6 +1,6 @@
 -- The zones of a sheet, and of a list that is written: those beyond the paths do not matter (`zones-front`), nor does any in version 1 (`unzoned`); what is read of a list that has no stray
 -- zone is its front (`zones-read`); and what is read of a sheet has none (`read-unstray`). Assumes nothing.
-use Prim.Native.Nat.{ℕ, zero, suc, _+_, _≤_, _<_}
+use Prim.Native.Nat.{ℕ, zero, suc, _+_, _^_, _≤_, _<_}
 use mathlib.Core.Path.{_≡_, refl, sym, ap, ap₂, _∙_}
 use mathlib.Core.Bool.{Bool, true, false, not}
 use mathlib.Core.List.{List, [], _∷_, _++_}
@@ -9,11 +9,12 @@ use lib.Dec.{eqb}
 use lib.ListN.{length, getD, drop, take, List·getD-append}
 use lib.Seq.{getD-drop, getD-take, length-take-le, ext-getD}
 use borrow.Author.Tests.{eqb-true, eq-eqb, not-false}
-use Rattle.scan.specs.Laws.{none-seek, seek-none}
+use Rattle.scan.specs.Laws.{none-seek, seek-none, seek-same}
 use Rattle.scan.specs.Scan.{Spot, nowhere, seek, pick}
-use Rattle.octets.specs.Big.{number}
+use Rattle.octets.specs.Big.{Bytes, number, number-below}
 use Rattle.sheet.specs.Format.{VERSION, zoned, pathBytes, pathsBytes, bodyOf, sheetOf, zonesAt, zonesOf, after}
 use Rattle.sheet.specs.Lengths.{zones-length}
+use Rattle.sheet_trips.specs.There.{Narrow}
 use Rattle.sheet_put.specs.Stray.{hasZone, strayAt, strayIn}
 
 -- version 1 has no zones, whatever stands in the list
@@ -34,6 +35,11 @@ zones-front v zones others (p ∷ ps) h =
 pub sheet-same : (v kind size s : ℕ) (zones others : List ℕ) (ps : List (List ℕ)) → pathsBytes v zones ps ≡ pathsBytes v others ps → sheetOf v kind size s zones ps ≡ sheetOf v kind size s others ps
 unfolding sheetOf bodyOf
 sheet-same v kind size s zones others ps e = cc
+
+-- what stands beyond them is not in the way
+pub stray-front : (v : ℕ) (zones others : List ℕ) (k : ℕ) → ((i : ℕ) → i < k → getD zones i 0 ≡ getD others i 0) → strayIn v zones k ≡ strayIn v others k
+unfolding strayAt
+stray-front v zones others k h = ap (pick (zoned v) nowhere) (seek-same (hasZone zones) (hasZone others) 0 k (λ i a b. ap (λ (z : ℕ). not (eqb z 0)) (h i (omega arith))))
 
 -- ---- written
 
@@ -64,7 +70,7 @@ zones-read v zones k e h =
 
 -- ---- read
 
-none-read : (v : ℕ) (l : List ℕ) (at k i : ℕ) → zoned v ≡ false → getD (zonesAt v l at k) i 0 ≡ 0
+pub none-read : (v : ℕ) (l : List ℕ) (at k i : ℕ) → zoned v ≡ false → getD (zonesAt v l at k) i 0 ≡ 0
 unfolding zonesAt
 none-read v l at zero i e = refl
 none-read v l at (suc k) zero e = ap (λ (b : Bool). pick b (number l (at + 2) 4) 0) e
@@ -80,3 +86,14 @@ read-unstray v l at k rest = go (zoned v) refl
     go false e =
         none-seek (hasZone (zonesAt v l at k ++ rest)) 0 k
         (λ j a g. ap not (eq-eqb (getD (zonesAt v l at k ++ rest) j 0) 0 (List·getD-append (zonesAt v l at k) rest 0 j (omega (arith, zones-length v l at k)) ∙ none-read v l at k j e)))
+
+-- zones that are read have 32 bits
+pub read-narrow : (v : ℕ) (l : List ℕ) → Bytes l → (at k : ℕ) → Narrow (zonesAt v l at k)
+unfolding zonesAt
+read-narrow v l b at zero i = omega arith
+read-narrow v l b at (suc k) zero = go (zoned v)
+  where
+    go : (z : Bool) → pick z (number l (at + 2) 4) 0 < 256 ^ 4
+    go true = number-below l b (at + 2) 4
+    go false = omega arith
+read-narrow v l b at (suc k) (suc i) = read-narrow v l b (after v l at) k i
