@@ -290,8 +290,9 @@ typedef struct GustFound {
   uint64_t number, start, length;
 } GustFound;
 
-/* Adds one sheet behind the last. Numbers: what reading it would tell but 8, with path and place (30, 31, 32, 33, 37, 34, 36, 2, 5, 6, 7, 22, 24); then 39, 40, and
- * 8 where there is no room after the last sheet. A refusal changes nothing. */
+/* Adds one sheet behind the last; where there is no room behind it, closes the book up first, as gust_book_close does. Numbers: what reading it would tell but 8, with path and
+ * place (30, 31, 32, 33, 37, 34, 36, 2, 5, 6, 7, 22, 24); then 39, 40, and 8 exactly where the sheets that are not removed and the new one are together longer than the bytes lent,
+ * or than 65,536. A refusal changes nothing: the book is then not closed up either. */
 GustBooked gust_book_add(GustBook book, uint8_t *bytes, size_t bytes_len, uint64_t *index, size_t index_len, const uint8_t *sheet, size_t sheet_len);
 
 /* Finds the sheet of a kind, a size and a source: it is the `length` bytes from `start` on, which lie within the bytes lent. Number: 51. */
@@ -300,6 +301,10 @@ GustFound gust_book_find(GustBook book, const uint8_t *bytes, size_t bytes_len, 
 
 /* Removes it: its version byte becomes 0, and its place goes out of the index. Its bytes stay in use. Number: 51, and then nothing is changed. */
 GustBooked gust_book_remove(GustBook book, uint8_t *bytes, size_t bytes_len, uint64_t *index, size_t index_len, uint64_t kind, uint64_t size, uint64_t source);
+
+/* Closes a book up, and gives the head to keep: the sheets that are not removed move down in their order, their bytes unchanged, over those that are; the index follows, and every
+ * sheet is found that was found before, at its new start. Bytes from the new end on stay as they were. Nothing is refused. */
+GustBook gust_book_close(GustBook book, uint8_t *bytes, size_t bytes_len, uint64_t *index, size_t index_len);
 
 /* What a restarting host calls: given exactly the used bytes of a book, works the index out afresh and gives the head. Numbers: 53 with the start of the first piece that
  * is no accepted or removed sheet, or whose kind, size and source stand earlier; 40 where the index is too short. Then nothing is changed, and the head is that of an

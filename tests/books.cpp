@@ -1,5 +1,5 @@
 // The calls of a book beside a plain map from kind, size and source to sheets: what is told, the head, and every byte and index place afterwards, after each call of long
-// random sequences, with books that fill up, sheets of both versions, and sheets that are refused. The index is worked out afresh from the bytes after each call. Then heads,
+// random sequences, closing up among them, with books that fill up, sheets of both versions, and sheets that are refused. The index is worked out afresh from the bytes after each call. Then heads,
 // bytes and indexes that no sequence of calls made, beside the definitions written out; and books opened from bytes, whole and damaged.
 #include "gustparsley.h"
 
@@ -120,11 +120,35 @@ struct Room {
     return {0, start, 4 + number(bytes, start, 4)};
   }
 
+  // The bytes of the pieces among the first `end` that are not removed.
+  Bytes kept(size_t end) const {
+    Bytes out;
+    for (size_t at = 0; end - at >= 16;) {
+      const size_t n = std::min<uint64_t>(end - at, 4 + number(bytes, at, 4));
+      if (bytes[at + 4]) out.insert(out.end(), bytes.begin() + static_cast<long>(at), bytes.begin() + static_cast<long>(at + n));
+      at += n;
+    }
+    return out;
+  }
+  size_t looked_at() const { return std::min(head.used, limit()); }
+
+  void close() {
+    const size_t end = looked_at(), n = count();
+    for (size_t i = 0; i < n; ++i) index[i] = (index[i] & ~uint64_t(65535)) | kept(std::min<size_t>(index[i] & 65535, end)).size();
+    const Bytes live = kept(end);
+    std::copy(live.begin(), live.end(), bytes.begin());
+    head = {live.size(), n};
+  }
+
   uint64_t add(const Bytes &sheet) {
     const uint64_t key = packed(key_of(sheet));
     if (there(key)) return 39;
     if (count() >= capacity()) return 40;
-    if (sheet.size() > limit() || head.used > limit() - sheet.size()) return 8;
+    if (sheet.size() > limit()) return 8;
+    if (head.used > limit() - sheet.size()) {
+      if (kept(looked_at()).size() > limit() - sheet.size()) return 8;
+      close();
+    }
     const size_t i = spot(key), n = count();
     for (size_t j = n; j > i; --j) index[j] = index[j - 1];
     index[i] = key << 16 | head.used;
@@ -170,6 +194,8 @@ GustBooked remove(Room &r, const Key &k) {
   return told;
 }
 
+void close(Room &r) { r.head = gust_book_close(r.head, r.bytes.data(), r.bytes.size(), r.index.data(), r.index.size()); }
+
 void note(const char *what, uint64_t number) { ++met[std::string(what) + " " + std::to_string(number)]; }
 
 Key some_key(const std::map<Key, Bytes> &map) {
@@ -185,7 +211,7 @@ void sequence(size_t bytes, size_t places, size_t calls, unsigned adds) {
   for (size_t i = 0; i < places; ++i) ours.index.push_back(dice());
   room = ours;
   std::map<Key, Bytes> map;
-  size_t used = 0;
+  size_t live = 0;  // bytes added less those removed
   static const std::vector<Flaw> flawed = flaws();
   for (size_t c = 0; c < calls; ++c) {
     const uint64_t what = below(10);
@@ -199,12 +225,14 @@ void sequence(size_t bytes, size_t places, size_t calls, unsigned adds) {
         const Bytes sheet = some_sheet();
         const uint64_t should = map.count(key_of(sheet))                                                      ? 39
                                 : map.size() >= std::min<size_t>(256, places)                                 ? 40
-                                : used + sheet.size() > std::min<size_t>(65536, bytes) ? 8
+                                : live + sheet.size() > std::min<size_t>(65536, bytes) ? 8
                                                                                        : 0;
+        const size_t before = ours.head.used;
         const GustBooked told = add(ours, sheet);
         same("add as the map", told.number == should && told.path == 0 && told.place == 0 && room.add(sheet) == should);
-        if (should == 0) map[key_of(sheet)] = sheet, used += sheet.size();
+        if (should == 0) map[key_of(sheet)] = sheet, live += sheet.size();
         note("add", should);
+        if (ours.head.used < before + sheet.size() && should == 0) note("add that closes up", 0);
       }
     } else if (what % 2) {
       const Key key = some_key(map);
@@ -219,17 +247,23 @@ void sequence(size_t bytes, size_t places, size_t calls, unsigned adds) {
       const uint64_t should = map.count(key) ? 0 : 51;
       const GustBooked told = remove(ours, key);
       same("remove as the map", told.number == should && room.remove(std::get<0>(key), std::get<1>(key), std::get<2>(key)) == should);
+      if (should == 0) live -= map[key].size();
       map.erase(key);
       note("remove", should);
     }
-    same("head, bytes and index", ours == room && ours.head.used == used && ours.head.entries == map.size());
+    if (below(40) == 0) {
+      close(ours), room.close();
+      same("closed up", ours.head.used == live);
+      note("close", 0);
+    }
+    same("head, bytes and index", ours == room && ours.head.used >= live && ours.head.entries == map.size());
     const Index fresh = afresh(ours.bytes, ours.head.used);
     same("the index afresh", fresh.size() == ours.head.entries && std::equal(fresh.begin(), fresh.end(), ours.index.begin()));
   }
   // opened again from the used bytes alone
   Index again(map.size() + below(3), 7);
   const GustBooked told = gust_book_open(ours.bytes.data(), ours.head.used, again.data(), again.size());
-  same("opened", told.number == 0 && told.place == 0 && told.book.used == used && told.book.entries == map.size() && std::equal(again.begin(), again.begin() + static_cast<long>(map.size()), ours.index.begin()));
+  same("opened", told.number == 0 && told.place == 0 && told.book.used == ours.head.used && told.book.entries == map.size() && std::equal(again.begin(), again.begin() + static_cast<long>(map.size()), ours.index.begin()));
   same("the rest of the index", std::all_of(again.begin() + static_cast<long>(map.size()), again.end(), [](uint64_t x) { return x == 7; }));
   if (!map.empty()) {
     Index few(map.size() - 1, 7);
@@ -257,10 +291,28 @@ void damaged(unsigned rounds) {
     const GustFound told = find(ours, key), should = room.find(std::get<0>(key), std::get<1>(key), std::get<2>(key));
     same("find in any book", told.number == should.number && told.start == should.start && told.length == should.length);
     note("find in any book", told.number);
-    if (below(2)) note("add to any book", add(ours, sheet).number), room.add(sheet);
+    if (below(3) == 0) close(ours), room.close(), note("close any book", 0);
+    else if (below(2)) note("add to any book", add(ours, sheet).number), room.add(sheet);
     else note("remove from any book", remove(ours, key).number), room.remove(std::get<0>(key), std::get<1>(key), std::get<2>(key));
     same("any book afterwards", ours == room);
   }
+}
+
+// 60 bytes and sheets of 26, as docs/BOOKS.md has them.
+void worked() {
+  Room r;
+  r.bytes.resize(60, 9);
+  r.index.resize(256, 9);
+  const Bytes one = form(1, 1, 1, 1, {{0}}), zero = form(1, 1, 1, 0, {{1}}), two = form(1, 1, 2, 0, {{1}}), three = form(1, 1, 3, 0, {{1}});
+  same("worked: two added", add(r, one).number == 0 && add(r, zero).number == 0 && add(r, zero).number == 39 && add(r, two).number == 8);
+  same("worked: removed", remove(r, {1, 1, 1}).number == 0 && r.head.used == 52 && r.head.entries == 1);
+  same("worked: closed up by adding", add(r, two).number == 0 && r.head.used == 52 && r.head.entries == 2 && find(r, {1, 1, 0}).start == 0 && find(r, {1, 2, 0}).start == 26);
+  const Room was = r;
+  same("worked: no room", add(r, three).number == 8 && r == was);
+  same("worked: removed again", remove(r, {1, 1, 0}).number == 0);
+  const Room then = r;
+  close(r);
+  same("worked: closed up", r.head.used == 26 && r.head.entries == 1 && find(r, {1, 2, 0}).start == 0 && std::equal(r.bytes.begin() + 26, r.bytes.end(), then.bytes.begin() + 26) && Bytes(r.bytes.begin(), r.bytes.begin() + 26) == two);
 }
 
 // Bytes that are no book.
@@ -340,6 +392,7 @@ int main(int count, char **) {
   const bool small = count > 1;
   worked();
   refused();
+  worked();
   for (int i = 0; i < (small ? 2 : 20); ++i) {
     sequence(300, 256, small ? 100 : 1000, 6);
     sequence(600, 4, small ? 100 : 1000, 6);
@@ -348,7 +401,7 @@ int main(int count, char **) {
     sequence(below(60), below(4), 50, 6);
   }
   damaged(small ? 200 : 20000);
-  for (const char *what : {"add 0", "add 39", "add 40", "add 8", "find 0", "find 51", "remove 0", "remove 51", "open 0", "open 40", "open 53"})
+  for (const char *what : {"add 0", "add 39", "add 40", "add 8", "find 0", "find 51", "remove 0", "remove 51", "open 0", "open 40", "open 53", "close 0", "add that closes up 0"})
     if (!small && !met[what]) {
       std::printf("books: FAILED: never told: %s\n", what);
       return 1;

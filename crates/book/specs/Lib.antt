@@ -4,6 +4,7 @@ pub mod Pieces
 pub mod Sheets
 pub mod Stands
 pub mod Removed
+pub mod Closed
 pub mod Searched
 pub mod Told
 pub mod Says

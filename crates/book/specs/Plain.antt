@@ -1,4 +1,4 @@
--- The plain map that a book answers as: from a kind, a size and a source to a sheet, with how many sheets it has and how many bytes were added to it (`Plain`). Calls one
+-- The plain map that a book answers as: from a kind, a size and a source to a sheet, with how many sheets it has and how many bytes they are, those added less those removed (`Plain`). Calls one
 -- after another, what each is answered by the map (`plainAnswer`) and by a book (`answer`), and both over a sequence (`plainTells`, `tells`). Assumes nothing.
 use Prim.Native.Nat.{ℕ, _+_, _-_}
 use mathlib.Core.Bool.{Bool, true, false}
@@ -12,7 +12,7 @@ use Rattle.sheet.specs.Says.{flawNumber, flawPath, flawPlace}
 use Rattle.sheet.specs.declared.Flaw.{Flaw}
 use Rattle.book.specs.Pieces.{of}
 use Rattle.book.specs.Sheets.{against}
-use Rattle.book.specs.Says.{capacity, limit, bookOf, addSays, addBytes, addIndex, findSays, removeSays, removeBytes, removeIndex}
+use Rattle.book.specs.Says.{capacity, limit, bookOf, addSays, addBytes, addIndex, findSays, removeSays, removeBytes, removeIndex, closeBook, closeBytes, closeIndex}
 use Rattle.book.specs.Told.{addedNumber, addedPath, addedPlace, addedBook, removedNumber, removedBook}
 use Rattle.book.specs.declared.Book.{Book}
 use Rattle.book.specs.declared.Found.{Found}
@@ -22,6 +22,7 @@ pub data Call : Type 0 where
   add : (sheet : List ℕ) → Call
   find : (kind size source : ℕ) → Call
   remove : (kind size source : ℕ) → Call
+  close : Call
 
 -- number, path and place, and the sheet that is found
 pub data Answer : Type 0 where
@@ -79,9 +80,10 @@ abbrev pub removeTold : Option (List ℕ) → Answer
 removeTold none = number 51
 removeTold (some p) = number 0
 
-abbrev pub ifSome : {A : Type 0} → Option (List ℕ) → A → A → A
-ifSome none x y = y
-ifSome (some p) x y = x
+-- what comes of the sheet, or where there is none
+abbrev pub ifSome : {A : Type 0} → Option (List ℕ) → (List ℕ → A) → A → A
+ifSome none f y = y
+ifSome (some p) f y = f p
 
 -- of a book with so many places and so many bytes
 module _ (places bytes : ℕ) (m : Plain) where
@@ -92,13 +94,15 @@ module _ (places bytes : ℕ) (m : Plain) where
   plainAnswer (add sheet) = addTold (against sheet) (standing sheet) (leb places (m .entries)) (ltb bytes (m .used + length sheet))
   plainAnswer (find kind size source) = findTold (m .at kind size source)
   plainAnswer (remove kind size source) = removeTold (m .at kind size source)
+  plainAnswer close = number 0
 
   unfoldable pub plainAfter : Call → Plain
   plainAfter (add sheet) =
       settled (against sheet) (standing sheet) (leb places (m .entries)) (ltb bytes (m .used + length sheet))
       (record { at = with (m .at) sheet; entries = m .entries + 1; used = m .used + length sheet }) m
   plainAfter (find kind size source) = m
-  plainAfter (remove kind size source) = ifSome (m .at kind size source) (record { at = less (m .at) kind size source; entries = m .entries - 1; used = m .used }) m
+  plainAfter (remove kind size source) = ifSome (m .at kind size source) (λ p. record { at = less (m .at) kind size source; entries = m .entries - 1; used = m .used - length p }) m
+  plainAfter close = m
 
 unfoldable pub plainTells : (places bytes : ℕ) → Plain → List Call → List Answer
 plainTells places bytes m [] = []
@@ -122,6 +126,7 @@ module _ (st : State) where
   answer (add sheet) = let a = addSays (st .head) (st .bytes) (st .index) sheet in tell (addedNumber a) (addedPath a) (addedPlace a) []
   answer (find kind size source) = foundTold (st .bytes) (findSays (st .head) (st .bytes) (st .index) kind size source)
   answer (remove kind size source) = number (removedNumber (removeSays (st .head) (st .bytes) (st .index) kind size source))
+  answer close = number 0
 
   unfoldable pub step : Call → State
   step (add sheet) = record {
@@ -135,10 +140,20 @@ module _ (st : State) where
     bytes = removeBytes (st .head) (st .bytes) (st .index) kind size source;
     index = removeIndex (st .head) (st .bytes) (st .index) kind size source;
   }
+  step close = record {
+    head = closeBook (st .head) (st .bytes) (st .index);
+    bytes = closeBytes (st .head) (st .bytes) (st .index);
+    index = closeIndex (st .head) (st .bytes) (st .index);
+  }
 
 unfoldable pub tells : State → List Call → List Answer
 tells st [] = []
 tells st (c ∷ cs) = answer st c ∷ tells (step st c) cs
+
+-- the map after the same calls
+unfoldable pub plainEnd : (places bytes : ℕ) → Plain → List Call → Plain
+plainEnd places bytes m [] = m
+plainEnd places bytes m (c ∷ cs) = plainEnd places bytes (plainAfter places bytes m c) cs
 
 unfoldable pub after : State → List Call → State
 after st [] = st

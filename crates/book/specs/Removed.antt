@@ -50,15 +50,15 @@ gone-piece p h = record {
 }
 
 module _ (from s : ℕ) (p : List ℕ) (ps : List (List ℕ)) where
-  mark-here : s ≡ from → mark from s (p ∷ ps) ≡ gone p ∷ ps
+  pub mark-here : s ≡ from → mark from s (p ∷ ps) ≡ gone p ∷ ps
   unfolding mark
   mark-here e = ap (λ (b : Bool). pick b (gone p ∷ ps) (p ∷ mark (from + length p) s ps)) (eq-eqb s from e)
 
-  mark-later : s ≢ from → mark from s (p ∷ ps) ≡ p ∷ mark (from + length p) s ps
+  pub mark-later : s ≢ from → mark from s (p ∷ ps) ≡ p ∷ mark (from + length p) s ps
   unfolding mark
   mark-later ne = ap (λ (b : Bool). pick b (gone p ∷ ps) (p ∷ mark (from + length p) s ps)) (ne-eqb s from ne)
 
-  beyond : Piece p → (q : List ℕ) → Stands (from + length p) ps s q → s ≢ from
+  pub beyond : Piece p → (q : List ℕ) → Stands (from + length p) ps s q → s ≢ from
   beyond h q g e = omega (arith, stands-from (from + length p) ps s q g, h .long)
 
 set-later : (p l : List ℕ) (i a : ℕ) → set (p ++ l) (length p + i) a ≡ p ++ set l i a

@@ -3,9 +3,9 @@
 use Prim.Native.Nat.{ℕ, _+_, _-_, min}
 use mathlib.Core.Bool.{Bool, true, false}
 use mathlib.Core.Option.{Option, none, some}
-use mathlib.Core.List.{List}
+use mathlib.Core.List.{List, map}
 use lib.Dec.{eqb, ltb, leb}
-use lib.ListN.{length, getD, set}
+use lib.ListN.{length, getD, set, take}
 use lib.Seq.{sets}
 use Rattle.scan.specs.Scan.{pick}
 use Rattle.octets.specs.Big.{number}
@@ -17,6 +17,7 @@ use Rattle.book.specs.Ordered.{entry, keyOf, startOf}
 use Rattle.book.specs.Pieces.{SOURCES, key, keyAt}
 use Rattle.book.specs.Sheets.{against}
 use Rattle.book.specs.Removed.{VERSIONED}
+use Rattle.book.specs.Closed.{kept, slid}
 use Rattle.book.specs.declared.Book.{Book}
 use Rattle.book.specs.declared.Added.{Added}
 use Rattle.book.specs.declared.Added.the-variants as added
@@ -60,6 +61,23 @@ module _ (b : Book) (index : List ℕ) where
   unfoldable pub there : (key : ℕ) → Bool
   there key = pick (ltb (spot key) count) (eqb (keyOf (getD index (spot key) 0)) key) false
 
+-- ---- closing up
+
+-- the bytes in use that are looked at
+unfoldable pub inUse : (b : Book) (bytes : List ℕ) → List ℕ
+inUse b bytes = take (min (b .used) (limit bytes)) bytes
+
+-- live sheets move down in their order, and the bytes from the new end on stay; each place of the index tells where its sheet then starts
+module _ (b : Book) (bytes index : List ℕ) where
+  unfoldable pub closeBook : Book
+  closeBook = bookOf (length (kept (inUse b bytes))) (count b index)
+
+  unfoldable pub closeBytes : List ℕ
+  closeBytes = sets bytes 0 (kept (inUse b bytes))
+
+  unfoldable pub closeIndex : List ℕ
+  closeIndex = sets index 0 (map (slid (inUse b bytes)) (take (count b index) index))
+
 -- ---- adding
 
 -- the first of what stands against it, or the head afterwards
@@ -79,19 +97,49 @@ ifAdded added.NoRoom x y = y
 unfoldable pub full : (b : Book) (index : List ℕ) → Bool
 full b index = leb (capacity index) (count b index)
 
--- no room is left after the last sheet
+-- no room is left after the last sheet, removed ones counted
 unfoldable pub short : (b : Book) (bytes sheet : List ℕ) → Bool
 short b bytes sheet = ltb (limit bytes) (b .used + length sheet)
 
+-- behind the last sheet
+module _ (b : Book) (bytes index sheet : List ℕ) where
+  unfoldable pub endSays : Added
+  endSays = addBy (against sheet) (there b index (keyAt sheet)) (full b index) (short b bytes sheet) (bookOf (b .used + length sheet) (count b index + 1))
+
+  unfoldable pub endBytes : List ℕ
+  endBytes = ifAdded endSays (sets bytes (b .used) sheet) bytes
+
+  unfoldable pub endIndex : List ℕ
+  endIndex = ifAdded endSays (opened index (spot b index (keyAt sheet)) (count b index) (entry (keyAt sheet) (b .used))) index
+
+-- the one where there was no room, else the other
+abbrev pub ifNoRoom : {A : Type 0} → Added → A → A → A
+ifNoRoom added.NoRoom x y = x
+ifNoRoom (added.Done b) x y = y
+ifNoRoom (added.Flawed f) x y = y
+ifNoRoom added.There x y = y
+ifNoRoom added.Full x y = y
+
+-- no room is left with the live sheets alone
+unfoldable pub crammed : (b : Book) (bytes sheet : List ℕ) → Bool
+crammed b bytes sheet = ltb (limit bytes) (length (kept (inUse b bytes)) + length sheet)
+
+-- where there is no room behind the last sheet the book is closed up first, if there is room then
 module _ (b : Book) (bytes index sheet : List ℕ) where
   unfoldable pub addSays : Added
-  addSays = addBy (against sheet) (there b index (keyAt sheet)) (full b index) (short b bytes sheet) (bookOf (b .used + length sheet) (count b index + 1))
+  addSays =
+      ifNoRoom (endSays b bytes index sheet) (pick (crammed b bytes sheet) added.NoRoom (endSays (closeBook b bytes index) (closeBytes b bytes index) (closeIndex b bytes index) sheet))
+      (endSays b bytes index sheet)
 
   unfoldable pub addBytes : List ℕ
-  addBytes = ifAdded addSays (sets bytes (b .used) sheet) bytes
+  addBytes =
+      ifNoRoom (endSays b bytes index sheet) (pick (crammed b bytes sheet) bytes (endBytes (closeBook b bytes index) (closeBytes b bytes index) (closeIndex b bytes index) sheet))
+      (endBytes b bytes index sheet)
 
   unfoldable pub addIndex : List ℕ
-  addIndex = ifAdded addSays (opened index (spot b index (keyAt sheet)) (count b index) (entry (keyAt sheet) (b .used))) index
+  addIndex =
+      ifNoRoom (endSays b bytes index sheet) (pick (crammed b bytes sheet) index (endIndex (closeBook b bytes index) (closeBytes b bytes index) (closeIndex b bytes index) sheet))
+      (endIndex b bytes index sheet)
 
 -- ---- finding and removing
 

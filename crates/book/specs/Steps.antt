@@ -4,10 +4,10 @@ use mathlib.Core.Path.{_≡_, refl, sym, ap, ap₂, _∙_, subst}
 use mathlib.Core.Bool.{Bool, true, false, not}
 use mathlib.Core.Logic.{_≢_}
 use mathlib.Core.Option.{Option, none, some}
-use mathlib.Core.List.{List, [], _∷_, _++_}
+use mathlib.Core.List.{List, [], _∷_, _++_, map}
 use native.Mathlib.Omega.{arith}
 use lib.Dec.{eqb, ltb}
-use lib.ListN.{length, getD, set, take, drop, length-append, length-set}
+use lib.ListN.{length, getD, set, take, drop, length-append, length-set, length-map}
 use lib.Seq.{sets, sets-eq, length-sets, take-at, take-take, take-set-lt, getD-take, getD-drop, length-take-le}
 use borrow.Author.Tests.{le-ltb}
 use Rattle.scan.specs.Scan.{pick}
@@ -20,8 +20,9 @@ use Rattle.book.specs.Pieces.{lengthOf, live, key, keyAt, of, joined, pl
 use Rattle.book.specs.Sheets.{against, Sheet, accepted}
 use Rattle.book.specs.Stands.{Piece, Sound, Stands, sheet-piece, sound-more, joined-more, placed-more, stands-bytes, stands-sound, sheet-some}
 use Rattle.book.specs.Removed.{VERSIONED, mark, sound-mark, joined-mark, placed-mark, mark-stands}
+use Rattle.book.specs.Closed.{kept, slid, lives, kept-long, kept-joined, sound-lives, rising-map, slid-key, placed-lives}
 use Rattle.book.specs.Searched.{search-put}
-use Rattle.book.specs.Says.{LIMIT, MOST, limit, capacity, bookOf, isKey, count, spot, there, heldAt, seeks}
+use Rattle.book.specs.Says.{LIMIT, MOST, limit, capacity, bookOf, isKey, count, spot, there, heldAt, seeks, inUse, closeBook, closeBytes, closeIndex}
 use Rattle.book.specs.Held.{Held, few, within, lent, used-is, entries-are, count-is, spot-found, lent-entries, Seen, Unseen, Same, of-same, same-key-of, same-piece}
 use Rattle.book.specs.declared.Book.{Book}
 use Rattle.book.specs.declared.Sought.{Sought}
@@ -156,3 +157,51 @@ module _ {places room : ℕ} {ps : List (List ℕ)} {b : Book} {bytes index : Li
             let w = mark-stands 0 (s .start) (s .piece) ps (h .sound) (s .stands) (f .start) r (f .stands) (f .alive) in
             absurd (w .1 (same-piece h (f .start) (s .start) r (s .piece) (w .0) (s .stands) (f .alive) (s .alive)
             (same-key-of kind size source r (of-same kind size source r (f .is)) ∙ sym (same-key-of kind size source (s .piece) (s .same)))))
+
+-- ---- closed up
+
+module _ {places room : ℕ} {ps : List (List ℕ)} {b : Book} {bytes index : List ℕ} (h : Held places room ps b bytes index) where
+  used-looked : inUse b bytes ≡ joined ps
+  unfolding inUse
+  used-looked =
+      let n : min (b .used) (limit bytes) ≡ b .used = omega (arith, h .used-fit, h .room-is) in
+      ap (λ (k : ℕ). take k bytes) n ∙ h .bytes-are
+
+  pub closed-bytes : kept (inUse b bytes) ≡ joined (lives ps)
+  closed-bytes = ap kept used-looked ∙ kept-joined ps (h .sound)
+
+  -- the live sheets are no longer than all
+  pub lives-long : length (joined (lives ps)) ≤ b .used
+  lives-long = omega (arith, ap length (kept-joined ps (h .sound)), kept-long (joined ps), used-is h)
+
+  slid-placed : map (slid (inUse b bytes)) (take (count b index) index) ≡ placed 0 (lives ps)
+  slid-placed =
+      ap₂ (λ (l : List ℕ) (n : ℕ). map (slid l) (take n index)) used-looked (count-is h) ∙ ap (map (slid (joined ps))) (h .index-is)
+      ∙ sym (placed-lives ps (h .sound) (omega (arith, used-is h, h .used-fit, few h)) (h .rising))
+
+  pub held-close : Held places room (lives ps) (closeBook b bytes index) (closeBytes b bytes index) (closeIndex b bytes index)
+  unfolding closeBook closeBytes closeIndex
+  held-close =
+      let w = map (slid (inUse b bytes)) (take (count b index) index) in
+      let long : length w ≡ count b index = length-map (take (count b index) index) (slid (inUse b bytes)) ∙ length-take-le (count b index) index (omega (arith, count-is h, lent-entries h)) in
+      let k = kept (inUse b bytes) in
+      let fits : length k ≤ room = omega (arith, ap length closed-bytes, lives-long, h .used-fit) in
+      record {
+        sound = sound-lives ps (h .sound);
+        rising =
+            subst Rising (sym (placed-lives ps (h .sound) (omega (arith, used-is h, h .used-fit, few h)) (h .rising)))
+            (rising-map (slid (joined ps)) (slid-key (joined ps)) (placed 0 ps) (h .rising));
+        places-are = same-capacity _ index (length-sets index 0 w) ∙ h .places-are;
+        room-is = same-limit _ bytes (length-sets bytes 0 k) ∙ h .room-is;
+        bytes-are =
+            ap (take (length k)) (sets-eq k bytes 0 (omega (arith, within h))) ∙ take-at k (drop (0 + length k) bytes) (length k) refl ∙ closed-bytes;
+        used-fit = fits;
+        index-is =
+            ap (take (count b index)) (sets-eq w index 0 (omega (arith, count-is h, lent-entries h))) ∙ take-at w (drop (0 + length w) index) (count b index) long ∙ slid-placed;
+        entries-fit = omega (arith, count-is h, h .entries-fit);
+      }
+
+  -- the head tells how long the live sheets are
+  pub closed-used : closeBook b bytes index .used ≡ length (joined (lives ps))
+  unfolding closeBook
+  closed-used = ap length closed-bytes

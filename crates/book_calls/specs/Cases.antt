@@ -20,7 +20,7 @@ use Rattle.book.specs.Ordered.{entry, keyOf, startOf}
 use Rattle.book.specs.Pieces.{key, keyAt}
 use Rattle.book.specs.Removed.{VERSIONED}
 use Rattle.book.specs.Sheets.{against, Keyed}
-use Rattle.book.specs.Says.{LIMIT, MOST, limit, capacity, bookOf, isKey, count, spot, there, full, short, addBy, ifAdded, addSays, addBytes, addIndex, heldAt, seeks, findBy, findSays, removeBy, removeBytesBy, removeIndexBy, removeSays, removeBytes, removeIndex}
+use Rattle.book.specs.Says.{LIMIT, MOST, limit, capacity, bookOf, isKey, count, spot, there, full, short, addBy, ifAdded, endSays, endBytes, endIndex, heldAt, seeks, findBy, findSays, removeBy, removeBytesBy, removeIndexBy, removeSays, removeBytes, removeIndex}
 use Rattle.book.specs.declared.Book.{Book}
 use Rattle.book.specs.declared.Added.{Added}
 use Rattle.book.specs.declared.Added.the-variants as added
@@ -92,11 +92,11 @@ found-is b bytes index kind size source e f = ap findBy (sym f ∙ e)
 module _ (b : Book) (bytes index sheet : List ℕ) where
   -- of an answer, with what it leaves
   abbrev pub Put : (r : Added) (bytes' index' : List ℕ) → Type 0
-  Put r bytes' index' = (r ≡ addSays b bytes index sheet) × (bytes' ≡ addBytes b bytes index sheet) × (index' ≡ addIndex b bytes index sheet)
+  Put r bytes' index' = (r ≡ endSays b bytes index sheet) × (bytes' ≡ endBytes b bytes index sheet) × (index' ≡ endIndex b bytes index sheet)
 
-  put-by : (r : Added) → addSays b bytes index sheet ≡ r
+  put-by : (r : Added) → endSays b bytes index sheet ≡ r
       → Put r (ifAdded r (sets bytes (b .used) sheet) bytes) (ifAdded r (opened index (spot b index (keyAt sheet)) (count b index) (entry (keyAt sheet) (b .used))) index)
-  unfolding addBytes addIndex
+  unfolding endBytes endIndex
   put-by r e = (
     sym e,
     ap (λ (a : Added). ifAdded a (sets bytes (b .used) sheet) bytes) (sym e),
@@ -104,13 +104,13 @@ module _ (b : Book) (bytes index sheet : List ℕ) where
   )
 
   pub put-flawed : {f : Flaw} → against sheet ≡ some f → Put (added.Flawed f) bytes index
-  unfolding addSays
+  unfolding endSays
   put-flawed {f} e = put-by (added.Flawed f) (ap (λ (o : Option Flaw). addBy o (there b index (keyAt sheet)) (full b index) (short b bytes sheet) (bookOf (b .used + length sheet) (count b index + 1))) e)
 
   module _ (e : against sheet ≡ none) where
     says-by : {x y z : Bool} → there b index (keyAt sheet) ≡ x → full b index ≡ y → short b bytes sheet ≡ z
-        → addSays b bytes index sheet ≡ addBy none x y z (bookOf (b .used + length sheet) (count b index + 1))
-    unfolding addSays
+        → endSays b bytes index sheet ≡ addBy none x y z (bookOf (b .used + length sheet) (count b index + 1))
+    unfolding endSays
     says-by {x} {y} {z} p q r =
         ap₂ (λ (o : Option Flaw) (t : Bool). addBy o t (full b index) (short b bytes sheet) (bookOf (b .used + length sheet) (count b index + 1))) e p
         ∙ ap₂ (λ (u v : Bool). addBy none x u v (bookOf (b .used + length sheet) (count b index + 1))) q r

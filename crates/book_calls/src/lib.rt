@@ -10,8 +10,9 @@ use book::Removed;
 use book::Sought;
 use sheet::Reading;
 
-// Adds one sheet behind the last, of either version, and its place to the index; gives the head afterwards. Refuses, in this order, with the reader's numbers but 8; 39, where the
-// book has a sheet of this kind, size and source; 40, where the index is full; 8, where there is no room after the last sheet, removed ones counted; and then changes nothing.
+// Adds one sheet behind the last, of either version, and its place to the index; gives the head afterwards. Where there is no room behind the last the book is closed up first. Refuses, in this
+// order, with the reader's numbers but 8; 39, where the book has a sheet of this kind, size and source; 40, where the index is full; 8, where the live sheets and the new one are together longer than
+// the bytes lent, or than 65,536; and then changes nothing.
 pub fn add(book: Book, bytes: &mut [u8], index: &mut [u64], sheet: &[u8]) -> Added
     ensures { λ r. ⌜ (r ≡ addSays book (now (bytes .entry)) (now (index .entry)) (now (sheet .entry))) × (now (bytes .exit) ≡ addBytes book (now (bytes .entry)) (now (index .entry)) (now (sheet .entry))) × (now (index .exit) ≡ addIndex book (now (bytes .entry)) (now (index .entry)) (now (sheet .entry))) ⌝ }
 {

@@ -20,7 +20,7 @@ use Rattle.book.specs.Ordered.{entry, keyOf, startOf}
 use Rattle.book.specs.Pieces.{key, keyAt}
 use Rattle.book.specs.Removed.{VERSIONED}
 use Rattle.book.specs.Sheets.{against, Keyed}
-use Rattle.book.specs.Says.{LIMIT, MOST, limit, capacity, bookOf, isKey, count, spot, there, full, short, addBy, ifAdded, addSays, addBytes, addIndex, heldAt, seeks, findBy, findSays, removeBy, removeBytesBy, removeIndexBy, removeSays, removeBytes, removeIndex}
+use Rattle.book.specs.Says.{LIMIT, MOST, limit, capacity, bookOf, isKey, count, spot, there, full, short, addBy, ifAdded, endSays, endBytes, endIndex, heldAt, seeks, findBy, findSays, removeBy, removeBytesBy, removeIndexBy, removeSays, removeBytes, removeIndex}
 use Rattle.book.specs.declared.Book.{Book}
 use Rattle.book.specs.declared.Added.{Added}
 use Rattle.book.specs.declared.Added.the-variants as added

@@ -1,6 +1,6 @@
 // Books of sheets: the head by value, bytes and index lent.
 ghost use mathlib.Core.Path.{_≡_};
-ghost use Rattle.book.specs.Says.{addSays, addBytes, addIndex, findSays, removeSays, removeBytes, removeIndex, bookOf};
+ghost use Rattle.book.specs.Says.{addSays, addBytes, addIndex, findSays, removeSays, removeBytes, removeIndex, closeBook, closeBytes, closeIndex, bookOf};
 ghost use Rattle.book.specs.Open.{openSays, openIndex};
 ghost use Rattle.book_shapes.specs.Shapes as specs;
 use book::Book;
@@ -65,4 +65,12 @@ pub extern "C" fn gust_book_open(bytes: &[u8], index: &mut [u64]) -> GustBooked
             entries: 0,
         },
     )
+}
+
+// `book_close::close`
+#[no_mangle]
+pub extern "C" fn gust_book_close(book: Book, bytes: &mut [u8], index: &mut [u64]) -> Book
+    ensures { λ r. ⌜ (r ≡ closeBook book (now (bytes .entry)) (now (index .entry))) × (now (bytes .exit) ≡ closeBytes book (now (bytes .entry)) (now (index .entry))) × (now (index .exit) ≡ closeIndex book (now (bytes .entry)) (now (index .entry))) ⌝ }
+{
+    book_close::close(book, bytes, index)
 }

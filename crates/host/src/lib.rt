@@ -8,6 +8,7 @@ mod ways;
 mod zones;
 
 pub use books::gust_book_add;
+pub use books::gust_book_close;
 pub use books::gust_book_find;
 pub use books::gust_book_open;
 pub use books::gust_book_remove;

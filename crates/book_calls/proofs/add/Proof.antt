@@ -1,6 +1,8 @@
 -- `book_calls::add` meets its contract: what the check says, and then what becomes of the sheet. Assumes nothing.
 use Rattle.book.specs.Sheets.{check-fan, check-refused, checked-keyed, checked-key}
+use mathlib.Core.Path.{refl}
 use Rattle.book_calls.specs.Cases.{put-flawed}
+use Rattle.book_calls.specs.Puts.{all-end}
 use borrow.Author.Needs.{needs}
 use Rattle.book_calls.proofs.add.Statement.{statement}
 use Rattle.book_calls.proofs.add.Tie as tie
@@ -30,7 +32,7 @@ returns : tie.Need-returns
 returns c = c .before .before .before .before .put .ensures
 
 returns-2 : tie.Need-returns-2
-returns-2 c = let a = c .before .before .before .before .before .before .before .args in put-flawed (a .book) (a .bytes .now) (a .index .now) (a .sheet .now) (check-refused (a .sheet .now) (c .before .read2 .given .1) (c .before .before .before .check-either .ensures .told))
+returns-2 c = let a = c .before .before .before .before .before .before .before .args in all-end (a .book) (a .bytes .now) (a .index .now) (a .sheet .now) (put-flawed (a .book) (a .bytes .now) (a .index .now) (a .sheet .now) (check-refused (a .sheet .now) (c .before .read2 .given .1) (c .before .before .before .check-either .ensures .told))) refl (λ x y. refl) (λ x y. refl)
 
 pub add-spec : {M : Type 1} → statement M
 add-spec =
