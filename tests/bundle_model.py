@@ -44,21 +44,21 @@ def finding(mesh, s, t, places, counts):
     return None
 
 
-def survivors(kind, size, s, t, places, counts, stopped, cuts, room):
-    """What is told, the count, and the columns."""
+def survivors(kind, size, s, t, places, counts, zones, stopped, cuts, room):
+    """What is told, the count, and the four columns."""
     mesh, columns = mesh_of(kind, size), [[HELD] * n for n in room]
     why = ends(mesh, s, t)
     if why:
         return (why, 0, 0), 0, columns
     k, width = mesh.links, mesh.longest + 2
-    if any(n < k for n in room) or len(places) < k * width or len(counts) < k:
+    if any(n < k for n in room) or len(places) < k * width or len(counts) < k or len(zones) < k:
         return (8, 0, 0), 0, columns
     found = finding(mesh, s, t, places, counts)
     if found:
         return found, 0, columns
     marks = [int(whole(places[i * width: i * width + counts[i] + 1], stopped, cuts)) for i in range(k)]
     assert s in stopped or t in stopped or k <= sum(marks) + failures(mesh, stopped, cuts), (kind, size, s, t, stopped, cuts)
-    for column, values in zip(columns, ([t] * k, counts, marks)):
+    for column, values in zip(columns, ([t] * k, counts, marks, zones)):
         column[:k] = values[:k]
     return (0, 0, 0), sum(marks), columns
 

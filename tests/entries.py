@@ -7,18 +7,20 @@ What lends a list of structs has a proof by hand (docs/DECISIONS.md), so the pro
 Run it after `rt check entries script`: what is proved is not proved again.
 """
 import os
+import random
 import subprocess
 import sys
 import tempfile
 
 import bundle_model
 import partial
-from judge_model import WORD, asked, cases, fan, survivors
+from judge_model import HELD, WORD, asked, cases, fan, survivors
+from mesh_model import mesh_of
 
 PROGRAM = """
-// A case at a time: 0 for a fan or 1 for a bundle; kind, size and source; targets, places, counts, stopped relays and cuts, each with its length before it; how many
-// entries are lent.
-// A line has what is told, the count, and the entries, all (9, 9, 1) before, as they are afterwards.
+// A case at a time: 0 for a fan or 1 for a bundle; kind, size and source; targets, places, counts, stopped relays, cuts and zones, each with its length before it; how
+// many entries are lent.
+// A line has what is told, the count, and the entries, all (9, 9, 1, 9) before, as they are afterwards.
 use entries::Entry;
 use mesh::Mesh;
 use script::item;
@@ -29,15 +31,16 @@ fn put_entry(e: Entry) {
     put(e.target);
     put(e.hops);
     put(if e.whole { 1 } else { 0 });
+    put(e.zone as u64);
 }
 
-fn tell(mode: u64, mesh: Mesh, source: u64, targets: &[u64], places: &[u64], counts: &[u64], stopped: &[u64], cuts: &[u64], room: usize) {
-    let mut out = [Entry { target: 9, hops: 9, whole: true }; 40];
+fn tell(mode: u64, mesh: Mesh, source: u64, targets: &[u64], places: &[u64], counts: &[u64], zones: &[u32], stopped: &[u64], cuts: &[u64], room: usize) {
+    let mut out = [Entry { target: 9, hops: 9, whole: true, zone: 9 }; 40];
     let n = script::least(room, 40);
     let t = if mode == 0 {
-        entries::survivors(mesh, source, targets, places, counts, stopped, cuts, &mut out[..n])
+        entries::survivors(mesh, source, targets, places, counts, zones, stopped, cuts, &mut out[..n])
     } else {
-        entries::bundle_survivors(mesh, source, item(targets, 0), places, counts, stopped, cuts, &mut out[..n])
+        entries::bundle_survivors(mesh, source, item(targets, 0), places, counts, zones, stopped, cuts, &mut out[..n])
     };
     put(t.number());
     put(t.path() as u64);
@@ -49,6 +52,17 @@ fn tell(mode: u64, mesh: Mesh, source: u64, targets: &[u64], places: &[u64], cou
         i += 1;
     }
     script::text(b"\\n");
+}
+
+// The numbers of a list, of 32 bits each, and how many.
+fn narrow(list: &[u64], out: &mut [u32]) -> usize {
+    let n = script::least(list.len(), out.len());
+    let mut i: usize = 0;
+    while i < n {
+        out[i] = list[i] as u32;
+        i += 1;
+    }
+    n
 }
 
 fn case(list: &[u64], from: usize) -> usize {
@@ -64,8 +78,12 @@ fn case(list: &[u64], from: usize) -> usize {
     let e = d + 1 + stopped.len();
     let cuts = run(list, e);
     let f = e + 1 + cuts.len();
-    tell(item(list, from), mesh, item(list, at + 2), targets, places, counts, stopped, cuts, item(list, f) as usize);
-    f + 1
+    let long = run(list, f);
+    let g = f + 1 + long.len();
+    let mut zones = [0u32; 40];
+    let n = narrow(long, &mut zones);
+    tell(item(list, from), mesh, item(list, at + 2), targets, places, counts, &zones[..n], stopped, cuts, item(list, g) as usize);
+    g + 1
 }
 
 fn main() {
@@ -82,10 +100,10 @@ fn main() {
 
 
 def listed():
-    """The model's cases of few places, of those with cuts and of metacubes one in four (the interpreter's steps are limited), with one list, as long as the shortest
+    """The model's cases of few places, of those with cuts and of metacubes one in eight (the interpreter's steps are limited), with one list, as long as the shortest
     of its three columns; then a list that is too short, with more against it."""
     for i, (*case, room) in enumerate(cases()):
-        if len(case[4]) <= 64 and (i % 4 == 0 or not case[7] and case[0] != 3):
+        if len(case[4]) <= 64 and (i % 8 == 0 or not case[7] and case[0] != 3):
             yield *case, min(room)
     places, counts = fan(1, 3, 0, [7, 1, 6])
     for room in (0, 2, 3):
@@ -95,16 +113,27 @@ def listed():
 
 
 def answered(told, count, columns):
-    entries = [[t, h, 1 if w == 9 else w] for t, h, w in zip(*columns)]
+    entries = [[t, h, 1 if w == HELD else w, z] for t, h, w, z in zip(*columns)]
     return "".join(f" {x}" for x in [*told, count, *sum(entries, [])])
+
+
+def zoned(chance, k):
+    """Zones for k paths; one time in eight there is one more, and one time in eight one too few."""
+    n = max(0, k + chance.choice((0, 0, 0, 0, 0, 0, 1, -1)))
+    return [chance.choice((0, chance.randrange(1, 10), chance.randrange(1 << 32), (1 << 32) - 1)) for _ in range(n)]
 
 
 def lines():
     """What is asked and what is to be answered, of fans and then of bundles."""
+    chance = random.Random(23)
     for *case, room in listed():
-        yield "0 " + asked(*case, (room,)), answered(*survivors(*case, (room,) * 3))
-    for kind, size, s, t, *case, room in bundle_model.cases():
-        yield "1 " + asked(kind, size, s, [t], *case, (room,)), answered(*bundle_model.survivors(kind, size, s, t, *case, (room,) * 3))
+        zones = zoned(chance, len(case[3]))
+        yield "0 " + asked(*case, (len(zones), *zones, room)), answered(*survivors(*case, (room,) * 4, zones))
+    for kind, size, s, t, places, counts, *failed, room in bundle_model.cases():
+        mesh = mesh_of(kind, size)
+        zones = zoned(chance, mesh.links if mesh else 0)
+        told = bundle_model.survivors(kind, size, s, t, places, counts, zones, *failed, (room,) * 4)
+        yield "1 " + asked(kind, size, s, [t], places, counts, *failed, (len(zones), *zones, room)), answered(*told)
 
 
 def prepare(folder):

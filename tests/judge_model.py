@@ -90,17 +90,17 @@ def failures(mesh, stopped, cuts):
     return len({x for x in stopped if x < mesh.relays}) + len(links)
 
 
-def survivors(kind, size, s, targets, places, counts, stopped, cuts, room):
-    """What is told, the count, and the columns."""
+def survivors(kind, size, s, targets, places, counts, stopped, cuts, room, zones=None):
+    """What is told, the count, and the columns, as many as there is room given for: three, or four with zones."""
     k, columns = len(targets), [[HELD] * n for n in room]
-    told = judge(kind, size, s, targets, places, counts, any(n < k for n in room))
+    told = judge(kind, size, s, targets, places, counts, any(n < k for n in room) or zones is not None and len(zones) < k)
     if told[0]:
         return told, 0, columns
     mesh = mesh_of(kind, size)
     width = mesh.longest + 1
     marks = [int(whole(places[i * width: i * width + counts[i] + 1], stopped, cuts)) for i in range(k)]
     assert s in stopped or k <= sum(marks) + failures(mesh, stopped, cuts), (kind, size, s, targets, stopped, cuts)
-    for column, values in zip(columns, (targets, counts, marks)):
+    for column, values in zip(columns, (targets, counts, marks, zones)):
         column[:k] = values[:k]
     return told, sum(marks), columns
 

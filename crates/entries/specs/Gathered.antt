@@ -31,12 +31,12 @@ takenOf (tally.Refused why) k = 0
 
 -- entry i of the columns: a path is whole where its mark is 1
 abbrev pub entryAt : Gathered → ℕ → Entry
-entryAt g i = entryOf (getD (g .ends) i 0) (getD (g .hops) i 0) (eqb (getD (g .wholes) i 0) 1)
+entryAt g i = entryOf (getD (g .ends) i 0) (getD (g .hops) i 0) (eqb (getD (g .wholes) i 0) 1) (getD (g .zones) i 0)
 
-pub record Gathers (q : Asked) (places counts : List ℕ) (fails : Failed) (room : ℕ) (g : Gathered) : Type 0 where
-  pub told : tallyTold (g .tally) ≡ listedTold q places counts fails room
-  pub taken : g .k ≡ settle q places counts fails room (length (q .targets)) 0
-  pub each : (i : ℕ) → i < g .k → entryAt g i ≡ pathEntry q places counts fails i
+pub record Gathers (q : Asked) (places counts zones : List ℕ) (fails : Failed) (room : ℕ) (g : Gathered) : Type 0 where
+  pub told : tallyTold (g .tally) ≡ listedTold q places counts zones fails room
+  pub taken : g .k ≡ settle q places counts zones fails room (length (q .targets)) 0
+  pub each : (i : ℕ) → i < g .k → entryAt g i ≡ pathEntry q places counts zones fails i
   pub small : g .k ≤ MOST
   pub fits : g .k ≤ room
 

@@ -19,14 +19,14 @@ use Rattle.paths.specs.Finding.{Finding, clean, found}
 use Rattle.paths.specs.Whole.{Failed, whole}
 use Rattle.mesh.specs.Kinds.{kindOf, meshOf}
 use Rattle.mesh.specs.Limits.{known-links}
-use Rattle.mesh.specs.Requests.{request-fine, ends-fine}
+use Rattle.mesh.specs.Requests.{request-fine, ends-fine, neither-wanting}
 use Rattle.judge.specs.Says.{numberOf, rule, verdictTold, Asked, fanAsked, bundleAsked, askedAgainst, askedFinding}
 use Rattle.judge.specs.Asked.{Passed, asked-alike, asked-passed}
 use Rattle.judge.specs.Numbers.{Numbered, findings-numbered, found-number, refused-number, rule-clean}
 use Rattle.columns.specs.Says.{ahead, marks}
 use Rattle.columns.specs.Laws.{marks-at, marks-length}
 use Rattle.survivors.specs.Tally.{tallied, rulingOf, verdictOf, tallyTold}
-use Rattle.survivors.specs.Says.{few, settled, lacking, Survived}
+use Rattle.survivors.specs.Says.{few, settled, lacking, scarce, wantingOf, SurvivedZoned}
 use Rattle.survivors.specs.Laws.{settled-is, settled-not}
 use Rattle.survivors.specs.declared.Tally.{Tally}
 use Rattle.survivors.specs.declared.Tally.the-variants as tally
@@ -37,16 +37,25 @@ use Rattle.entries.specs.declared.gathered.Gathered.{Gathered}
 
 -- ---- room for the most is room for all
 
-pub few-alike : (k n : ℕ) → few k n n n ≡ ltb n k
+few-alike : (k n : ℕ) → few k n n n ≡ ltb n k
 few-alike k n = go (ltb n k)
   where
     go : (b : Bool) → pick b true (pick b true b) ≡ b
     go true = refl
     go false = refl
 
-few-capped : (k room : ℕ) → k ≤ MOST → few k (capped room) (capped room) (capped room) ≡ ltb room k
+-- a list of n entries is too short where columns of n places are, zones among them
+pub scarce-alike : (k zones n : ℕ) → pick (scarce k zones n) true (few k n n n) ≡ scarce k zones n
+scarce-alike k zones n = ap (pick (scarce k zones n) true) (few-alike k n) ∙ go (ltb zones k) (ltb n k)
+  where
+    go : (a b : Bool) → pick (pick a true b) true b ≡ pick a true b
+    go true b = refl
+    go false true = refl
+    go false false = refl
+
+scarce-capped : (k zones room : ℕ) → k ≤ MOST → scarce k zones (capped room) ≡ scarce k zones room
 unfolding capped
-few-capped k room h = few-alike k (pick (ltb room MOST) room MOST) ∙ go (ltb room MOST) refl
+scarce-capped k zones room h = ap (pick (ltb zones k) true) (go (ltb room MOST) refl)
   where
     go : (b : Bool) → ltb room MOST ≡ b → ltb (pick b room MOST) k ≡ ltb room k
     go true e = refl
@@ -103,14 +112,18 @@ module _ (w : ℕ) (targets places counts : List ℕ) (fails : Failed) (i : ℕ)
   ended-at ends₀ rest =
       List·getD-append (targets ++ drop (length targets) ends₀) rest 0 i (simp length-append (omega arith)) ∙ List·getD-append targets (drop (length targets) ends₀) 0 i below
 
+  -- a column of what is lent in: hops, or zones
+  lent-at : (l : List ℕ) → length targets ≤ length l → (was rest : List ℕ) → getD (ahead (length targets) (take (length targets) l) was ++ rest) i 0 ≡ getD l i 0
+  lent-at l many was rest =
+      let k = length targets in
+      let long : i < length (take k l) = omega (arith, length-take-le k l many) in
+      List·getD-append (take k l ++ drop k was) rest 0 i (simp length-append (omega (arith, long)))
+      ∙ List·getD-append (take k l) (drop k was) 0 i long
+      ∙ getD-take k l i 0 below
+
   hopped-at : length targets ≤ length counts → (hops₀ rest : List ℕ) → getD (ahead (length targets) (take (length targets) counts) hops₀ ++ rest) i 0 ≡ hops counts i
   unfolding hops
-  hopped-at many hops₀ rest =
-      let k = length targets in
-      let long : i < length (take k counts) = omega (arith, length-take-le k counts many) in
-      List·getD-append (take k counts ++ drop k hops₀) rest 0 i (simp length-append (omega (arith, long)))
-      ∙ List·getD-append (take k counts) (drop k hops₀) 0 i long
-      ∙ getD-take k counts i 0 below
+  hopped-at many hops₀ rest = lent-at counts many hops₀ rest
 
   marked-at : (wholes₀ rest : List ℕ) → eqb (getD (ahead (length targets) (marks test (length targets)) wholes₀ ++ rest) i 0) 1 ≡ test i
   marked-at wholes₀ rest =
@@ -136,9 +149,9 @@ capped-most room {m} e = rw e (go (ltb room MOST) refl)
 pub capped-length : (room : ℕ) (zeros : List ℕ) {m : ℕ} → length zeros ≡ MOST → m ≡ capped room → length (take m zeros) ≡ m
 capped-length room zeros {m} z e = length-take-le m zeros (omega (arith, capped-most room e, z))
 
-module _ (q : Asked) (many : order.first (q .faults) ≡ none → length (q .targets) ≤ MOST) (places counts : List ℕ) (fails : Failed) (room m : ℕ) (t : Tally)
-    (zeros ends₁ hops₁ wholes₁ : List ℕ) (z : length zeros ≡ MOST) (cap : m ≡ capped room)
-    (p : Survived false q places counts fails (take m zeros) (take m zeros) (take m zeros) t ends₁ hops₁ wholes₁) where
+module _ (q : Asked) (many : order.first (q .faults) ≡ none → length (q .targets) ≤ MOST) (places counts zones : List ℕ) (fails : Failed) (room m : ℕ) (t : Tally)
+    (zeros ends₁ hops₁ wholes₁ sites₁ : List ℕ) (z : length zeros ≡ MOST) (cap : m ≡ capped room)
+    (p : SurvivedZoned q places counts zones fails (take m zeros) (take m zeros) (take m zeros) (take m zeros) t ends₁ hops₁ wholes₁ sites₁) where
   abbrev k : ℕ
   k = length (q .targets)
 
@@ -147,18 +160,18 @@ module _ (q : Asked) (many : order.first (q .faults) ≡ none → length (q .tar
 
   -- what stands against the columns that were lent, and against the list of entries
   abbrev lent : Option Refusal
-  lent = askedAgainst q places counts (lacking false (q .targets) (take m zeros) (take m zeros) (take m zeros))
+  lent = askedAgainst q places counts (lacking (wantingOf q places counts zones fails (take m zeros) (take m zeros) (take m zeros) (take m zeros)) (q .targets) (take m zeros) (take m zeros) (take m zeros))
 
   abbrev asked : Option Refusal
-  asked = askedAgainst q places counts (ltb room k)
+  asked = askedAgainst q places counts (scarce k (length zones) room)
 
   against : lent ≡ asked
   against =
       let long : length (take m zeros) ≡ capped room = capped-length room zeros z cap ∙ cap in
-      asked-alike q places counts _ _ (λ e. ap (λ (l : ℕ). few k l l l) long ∙ few-capped k room (many e))
+      asked-alike q places counts _ _ (λ e. ap (λ (l : ℕ). pick (scarce k (length zones) l) true (few k l l l)) long ∙ scarce-alike k (length zones) (capped room) ∙ scarce-capped k (length zones) room (many e))
 
-  told : tallyTold t ≡ listedTold q places counts fails room
-  told = p .told ∙ ap (λ (o : Option Refusal). tallied (rule o first) (settled o first (count (whole (span (q .rules)) places counts fails) k) 0)) against
+  told : tallyTold t ≡ listedTold q places counts zones fails room
+  told = p .survived .told ∙ ap (λ (o : Option Refusal). tallied (rule o first) (settled o first (count (whole (span (q .rules)) places counts fails) k) 0)) against
 
   ruled : verdictTold (verdictOf t) ≡ rule asked first
   ruled = ap rulingOf told
@@ -167,28 +180,32 @@ module _ (q : Asked) (many : order.first (q .faults) ≡ none → length (q .tar
   numbered = findings-numbered (q .rules) (q .source) (q .targets) places counts
 
   module _ (none-against : asked ≡ none) (none-found : first ≡ clean) where
-    passed : Passed q (length places) (length counts) (ltb room k)
-    passed = asked-passed q places counts (ltb room k) none-against
+    passed : Passed q (length places) (length counts) (scarce k (length zones) room)
+    passed = asked-passed q places counts (scarce k (length zones) room) none-against
+
+    zones-there : k ≤ length zones
+    zones-there = ltb-false (length zones) k (neither-wanting (ltb (length zones) k) (ltb room k) refl (passed .lent) .0)
 
     room-for : (k ≤ MOST) × (k ≤ room)
-    room-for = (many (passed .faultless), ltb-false room k (passed .lent))
+    room-for = (many (passed .faultless), ltb-false room k (neither-wanting (ltb (length zones) k) (ltb room k) refl (passed .lent) .1))
 
     given : {A : Type 0} (a b : A) → settled lent first a b ≡ a
     given a b = settled-is a b (against ∙ none-against) none-found
 
     entry-at : (i : ℕ) → i < k
-        → entryOf (getD (ends₁ ++ drop m zeros) i 0) (getD (hops₁ ++ drop m zeros) i 0) (eqb (getD (wholes₁ ++ drop m zeros) i 0) 1) ≡ pathEntry q places counts fails i
+        → entryOf (getD (ends₁ ++ drop m zeros) i 0) (getD (hops₁ ++ drop m zeros) i 0) (eqb (getD (wholes₁ ++ drop m zeros) i 0) 1) (getD (sites₁ ++ drop m zeros) i 0) ≡ pathEntry q places counts zones fails i
     entry-at i h =
         let w = span (q .rules) in
         let l = q .targets in
-        let e = ap (λ (l : List ℕ). getD (l ++ drop m zeros) i 0) (p .ended ∙ given _ _) ∙ ended-at w l places counts fails i h (take m zeros) (drop m zeros) in
-        let c = ap (λ (l : List ℕ). getD (l ++ drop m zeros) i 0) (p .hopped ∙ given _ _) ∙ hopped-at w l places counts fails i h (passed .counted) (take m zeros) (drop m zeros) in
-        let b = ap (λ (l : List ℕ). eqb (getD (l ++ drop m zeros) i 0) 1) (p .marked ∙ given _ _) ∙ marked-at w l places counts fails i h (take m zeros) (drop m zeros) in
-        λ j. entryOf (e j) (c j) (b j)
+        let e = ap (λ (l : List ℕ). getD (l ++ drop m zeros) i 0) (p .survived .ended ∙ given _ _) ∙ ended-at w l places counts fails i h (take m zeros) (drop m zeros) in
+        let c = ap (λ (l : List ℕ). getD (l ++ drop m zeros) i 0) (p .survived .hopped ∙ given _ _) ∙ hopped-at w l places counts fails i h (passed .counted) (take m zeros) (drop m zeros) in
+        let b = ap (λ (l : List ℕ). eqb (getD (l ++ drop m zeros) i 0) 1) (p .survived .marked ∙ given _ _) ∙ marked-at w l places counts fails i h (take m zeros) (drop m zeros) in
+        let z = ap (λ (l : List ℕ). getD (l ++ drop m zeros) i 0) (p .zoned ∙ given _ _) ∙ lent-at w l places counts fails i h zones zones-there (take m zeros) (drop m zeros) in
+        λ j. entryOf (e j) (c j) (b j) (z j)
 
   -- j is what code has of how many paths there are
   pub gathered : {j r : ℕ} → (order.first (q .faults) ≡ none → j ≡ k) → r ≡ takenOf t j
-      → Gathers q places counts fails room (record { tally = t; k = r; ends = ends₁ ++ drop m zeros; hops = hops₁ ++ drop m zeros; wholes = wholes₁ ++ drop m zeros })
+      → Gathers q places counts zones fails room (record { tally = t; k = r; ends = ends₁ ++ drop m zeros; hops = hops₁ ++ drop m zeros; wholes = wholes₁ ++ drop m zeros; zones = sites₁ ++ drop m zeros })
   gathered {j} {r} paths f = record {
     told = told;
     taken = e ∙ taken-settled asked first numbered t k ruled;
@@ -218,11 +235,11 @@ listed-by none clean f g k taken out e h = ap (λ (l : List Entry). l ++ drop ta
 listed-by none (found x i p) f g k taken out e h = ap (λ (j : ℕ). entries f j ++ drop j out) e
 listed-by (some why) a f g k taken out e h = ap (λ (j : ℕ). entries f j ++ drop j out) e
 
-pub listed : (q : Asked) (places counts : List ℕ) (fails : Failed) (out : List Entry) {g : Gathered} {r : Tally} {out₁ : List Entry}
-    → Gathers q places counts fails (length out) g → r ≡ g .tally → out₁ ≡ entries (entryAt g) (g .k) ++ drop (g .k) out → Listed q places counts fails out r out₁
-listed q places counts fails out {g} {r} {out₁} p e f = record {
+pub listed : (q : Asked) (places counts zones : List ℕ) (fails : Failed) (out : List Entry) {g : Gathered} {r : Tally} {out₁ : List Entry}
+    → Gathers q places counts zones fails (length out) g → r ≡ g .tally → out₁ ≡ entries (entryAt g) (g .k) ++ drop (g .k) out → Listed q places counts zones fails out r out₁
+listed q places counts zones fails out {g} {r} {out₁} p e f = record {
   told = ap tallyTold e ∙ p .told;
   listed = f
-      ∙ listed-by (askedAgainst q places counts (ltb (length out) (length (q .targets)))) (askedFinding q places counts) (entryAt g) (pathEntry q places counts fails)
+      ∙ listed-by (askedAgainst q places counts (scarce (length (q .targets)) (length zones) (length out))) (askedFinding q places counts) (entryAt g) (pathEntry q places counts zones fails)
       (length (q .targets)) (g .k) out (p .taken) (p .each);
 }

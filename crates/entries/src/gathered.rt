@@ -1,4 +1,4 @@
-// The three columns of the plain function, gathered for as many entries as there is room for.
+// The four columns of the plain function, gathered for as many entries as there is room for.
 ghost use mathlib.Core.Path.{_≡_};
 ghost use Prim.Native.Nat.{_<_};
 ghost use Rattle.paths.specs.Whole.{failed};
@@ -19,6 +19,7 @@ pub struct Gathered {
     pub ends: [u64; MOST],
     pub hops: [u64; MOST],
     pub wholes: [u64; MOST],
+    pub zones: [u32; MOST],
 }
 
 impl Gathered {
@@ -45,6 +46,7 @@ impl Gathered {
             target: self.ends[i],
             hops: self.hops[i],
             whole: self.wholes[i] == 1,
+            zone: self.zones[i],
         }
     }
 }
@@ -77,28 +79,31 @@ pub fn gather<'b>(
     targets: &'b [u64],
     places: &'b [u64],
     counts: &'b [u64],
+    zones: &'b [u32],
     stopped: &'b [u64],
     cuts: &'b [u64],
     room: usize,
 ) -> Gathered
-    ensures { λ r. ⌜ Gathers (fanAsked (kindOf (mesh .kind)) (mesh .size) source (now (targets .entry))) (now (places .entry)) (now (counts .entry)) (failed (now (stopped .entry)) (now (cuts .entry))) room r ⌝ }
+    ensures { λ r. ⌜ Gathers (fanAsked (kindOf (mesh .kind)) (mesh .size) source (now (targets .entry))) (now (places .entry)) (now (counts .entry)) (now (zones .entry)) (failed (now (stopped .entry)) (now (cuts .entry))) room r ⌝ }
 {
     let n = most(room);
     let mut ends = [0u64; MOST];
     let mut hops = [0u64; MOST];
     let mut wholes = [0u64; MOST];
-    let tally = survivors::three(
+    let mut sites = [0u32; MOST];
+    let tally = survivors::survivors(
         mesh,
         source,
         targets,
         places,
         counts,
+        zones,
         stopped,
         cuts,
-        false,
         &mut ends[..n],
         &mut hops[..n],
         &mut wholes[..n],
+        &mut sites[..n],
     );
     let k = taken(tally, targets.len());
     Gathered {
@@ -107,6 +112,7 @@ pub fn gather<'b>(
         ends: ends,
         hops: hops,
         wholes: wholes,
+        zones: sites,
     }
 }
 
@@ -117,28 +123,31 @@ pub fn gather_bundle<'b>(
     target: u64,
     places: &'b [u64],
     counts: &'b [u64],
+    zones: &'b [u32],
     stopped: &'b [u64],
     cuts: &'b [u64],
     room: usize,
 ) -> Gathered
-    ensures { λ r. ⌜ Gathers (bundleAsked (kindOf (mesh .kind)) (mesh .size) source target) (now (places .entry)) (now (counts .entry)) (failed (now (stopped .entry)) (now (cuts .entry))) room r ⌝ }
+    ensures { λ r. ⌜ Gathers (bundleAsked (kindOf (mesh .kind)) (mesh .size) source target) (now (places .entry)) (now (counts .entry)) (now (zones .entry)) (failed (now (stopped .entry)) (now (cuts .entry))) room r ⌝ }
 {
     let n = most(room);
     let mut ends = [0u64; MOST];
     let mut hops = [0u64; MOST];
     let mut wholes = [0u64; MOST];
-    let tally = survivors::bundle_three(
+    let mut sites = [0u32; MOST];
+    let tally = survivors::bundle_survivors(
         mesh,
         source,
         target,
         places,
         counts,
+        zones,
         stopped,
         cuts,
-        false,
         &mut ends[..n],
         &mut hops[..n],
         &mut wholes[..n],
+        &mut sites[..n],
     );
     let paths = columns::bundle_paths(mesh);
     let k = taken(tally, paths);
@@ -148,5 +157,6 @@ pub fn gather_bundle<'b>(
         ends: ends,
         hops: hops,
         wholes: wholes,
+        zones: sites,
     }
 }

@@ -1,4 +1,4 @@
-// Survivors over one lent list of entries: a thin function over the plain one, which fills three columns of numbers.
+// Survivors over one lent list of entries: a thin function over the plain one, which fills four columns of numbers.
 mod gathered;
 
 ghost use mathlib.Core.Path.{_≡_};
@@ -13,12 +13,13 @@ use gathered::Gathered;
 use mesh::Mesh;
 use survivors::Tally;
 
-// One path of a fan or a bundle: its target, its hops, and whether it is whole.
+// One path of a fan or a bundle: its target, its hops, whether it is whole, and its zone, which is lent in.
 #[repr(C)]
 pub struct Entry {
     pub target: u64,
     pub hops: u64,
     pub whole: bool,
+    pub zone: u32,
 }
 
 // Stores the gathered entries at the front of the list, and gives on what comes back. Proved by hand, as every function over a list of structs: the
@@ -37,8 +38,8 @@ fn store<'a>(g: Gathered, out: &'a mut [Entry]) -> Tally
 }
 
 // Of a fan from the source to the targets, an entry for each path, in the targets' order, at the front of `out`; the entries after those stay.
-// Answers how many are whole. In the cube of 2 dimensions, of the paths 0, 2, 3 and 0, 1, with relay 2 stopped, the entries are (3, 2, no) and
-// (1, 1, yes), and the answer is 1. Cuts are as in `survivors::survivors`. Refuses with 1 to 8, or gives the judge's first finding, and then leaves `out` as it was.
+// Answers how many are whole. In the cube of 2 dimensions, of the paths 0, 2, 3 and 0, 1, with the zones 7 and 9 and relay 2 stopped, the entries are
+// (3, 2, no, 7) and (1, 1, yes, 9), and the answer is 1. Cuts are as in `survivors::survivors`, and too few zones are 8. Refuses with 1 to 8, or gives the judge's first finding, and then leaves `out` as it was.
 // Proved by hand, so it has no loop and no branch; one lifetime for all that is read keeps that proof short.
 pub fn survivors<'a, 'b>(
     mesh: Mesh,
@@ -46,11 +47,12 @@ pub fn survivors<'a, 'b>(
     targets: &'b [u64],
     places: &'b [u64],
     counts: &'b [u64],
+    zones: &'b [u32],
     stopped: &'b [u64],
     cuts: &'b [u64],
     out: &'a mut [Entry],
 ) -> Tally
-    ensures { λ r. ⌜ Listed (fanAsked (kindOf (mesh .kind)) (mesh .size) source (now (targets .entry))) (now (places .entry)) (now (counts .entry)) (failed (now (stopped .entry)) (now (cuts .entry))) (now (out .entry)) r (now (out .exit)) ⌝ }
+    ensures { λ r. ⌜ Listed (fanAsked (kindOf (mesh .kind)) (mesh .size) source (now (targets .entry))) (now (places .entry)) (now (counts .entry)) (now (zones .entry)) (failed (now (stopped .entry)) (now (cuts .entry))) (now (out .entry)) r (now (out .exit)) ⌝ }
 {
     let g = gathered::gather(
         mesh,
@@ -58,6 +60,7 @@ pub fn survivors<'a, 'b>(
         targets,
         places,
         counts,
+        zones,
         stopped,
         cuts,
         out.len(),
@@ -66,8 +69,8 @@ pub fn survivors<'a, 'b>(
 }
 
 // Of a bundle from the source to the target, an entry for each path, as many as a relay has links, at the front of `out`; the entries after those stay.
-// Answers how many are whole. In the cube of 2 dimensions, of the paths 0, 1 and 0, 2, 3, 1, with relay 2 stopped, the entries are (1, 1, yes) and
-// (1, 3, no), and the answer is 1. Refuses with 1, 52, 2, 5, 6, 8, or gives the judge's first finding, and then leaves `out` as it was.
+// Answers how many are whole. In the cube of 2 dimensions, of the paths 0, 1 and 0, 2, 3, 1, with the zones 7 and 9 and relay 2 stopped, the entries are
+// (1, 1, yes, 7) and (1, 3, no, 9), and the answer is 1. Refuses with 1, 52, 2, 5, 6, 8, or gives the judge's first finding, and then leaves `out` as it was.
 // Proved by hand, as `survivors` is.
 pub fn bundle_survivors<'a, 'b>(
     mesh: Mesh,
@@ -75,11 +78,12 @@ pub fn bundle_survivors<'a, 'b>(
     target: u64,
     places: &'b [u64],
     counts: &'b [u64],
+    zones: &'b [u32],
     stopped: &'b [u64],
     cuts: &'b [u64],
     out: &'a mut [Entry],
 ) -> Tally
-    ensures { λ r. ⌜ Listed (bundleAsked (kindOf (mesh .kind)) (mesh .size) source target) (now (places .entry)) (now (counts .entry)) (failed (now (stopped .entry)) (now (cuts .entry))) (now (out .entry)) r (now (out .exit)) ⌝ }
+    ensures { λ r. ⌜ Listed (bundleAsked (kindOf (mesh .kind)) (mesh .size) source target) (now (places .entry)) (now (counts .entry)) (now (zones .entry)) (failed (now (stopped .entry)) (now (cuts .entry))) (now (out .entry)) r (now (out .exit)) ⌝ }
 {
     let g = gathered::gather_bundle(
         mesh,
@@ -87,6 +91,7 @@ pub fn bundle_survivors<'a, 'b>(
         target,
         places,
         counts,
+        zones,
         stopped,
         cuts,
         out.len(),
