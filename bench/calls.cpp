@@ -175,8 +175,9 @@ void survivors(Mesh &m, const char *call, double bar) {
   m.row(call, "C++ by bits", bar,
         [=](Case &c) {
           static uint64_t none[2];
-          out.targets[0] = gust_survivors(kind, size, c.source, c.targets.data(), k, c.places.data(), c.places.size(), c.counts.data(), k, stopped->data(),
-                                          stopped->size(), none, 0, out.ends, 32, out.hops, 32, out.wholes, 32)
+          static uint32_t zones[32], sites[32];
+          out.targets[0] = gust_survivors(kind, size, c.source, c.targets.data(), k, c.places.data(), c.places.size(), c.counts.data(), k, zones, 32, stopped->data(),
+                                          stopped->size(), none, 0, out.ends, 32, out.hops, 32, out.wholes, 32, sites, 32)
                                .value;
         },
         [=](Case &c) {
@@ -190,8 +191,9 @@ void bundle_survivors(Mesh &m) {
   m.row("bundle_survivors, 3 stopped", "C++ by bits", 0,
         [=](Case &c) {
           static uint64_t none[2];
-          out.targets[0] = gust_bundle_survivors(kind, size, c.source, c.target, c.bundle.data(), c.bundle.size(), c.bundle_counts.data(), k, stopped->data(),
-                                                 stopped->size(), none, 0, out.ends, 32, out.hops, 32, out.wholes, 32)
+          static uint32_t zones[32], sites[32];
+          out.targets[0] = gust_bundle_survivors(kind, size, c.source, c.target, c.bundle.data(), c.bundle.size(), c.bundle_counts.data(), k, zones, 32, stopped->data(),
+                                                 stopped->size(), none, 0, out.ends, 32, out.hops, 32, out.wholes, 32, sites, 32)
                                .value;
         },
         [=](Case &c) {
@@ -280,6 +282,35 @@ void frames(double seconds) {
   measure::measure(rows, 4096, {0, 1, 2, 3}, seconds);
 }
 
+// A book of 256 sheets: a sheet found by the index, beside a search of the bytes from the front.
+void books(double seconds) {
+  static std::vector<uint8_t> bytes(65536);
+  static std::vector<uint64_t> index(256), asked;
+  static GustBook book = {0, 0};
+  for (uint64_t i = 0; i < 256; ++i) {
+    const uint64_t source = i * 167 % 256;
+    uint8_t sheet[26] = {0, 0, 0, 22, 1, 1, 8, 1, 0, 0, 0, 0, 0, 0, 0, static_cast<uint8_t>(source), 0, 1, 0, 0, 0, 0, 0, 0, 0, static_cast<uint8_t>(source ^ 1)};
+    const GustBooked added = gust_book_add(book, bytes.data(), bytes.size(), index.data(), index.size(), sheet, sizeof sheet);
+    agree(added.number == 0);
+    book = added.book;
+  }
+  for (size_t i = 0; i < 4096; ++i) asked.push_back(random_number() % 256);
+  static uint64_t starts[2];
+  const Calls ours = [](size_t first, size_t last) {
+    starts[0] = 0;
+    for (size_t i = first; i < last; ++i) starts[0] += gust_book_find(book, bytes.data(), bytes.size(), index.data(), index.size(), GUST_CUBE, 8, asked[i]).start;
+  };
+  const Calls theirs = [](size_t first, size_t last) {
+    starts[1] = 0;
+    for (size_t i = first; i < last; ++i) starts[1] += same::book_find(book, bytes.data(), GUST_CUBE, 8, asked[i]).start;
+  };
+  std::vector<Row> rows = {{"book_find, 256 sheets", "", "C++ from the front", ours, theirs, 0}};
+  rows.back().ours(0, asked.size());
+  rows.back().theirs(0, asked.size());
+  agree(starts[0] == starts[1]);
+  measure::measure(rows, 4096, {0, 1, 2, 3}, seconds);
+}
+
 }  // namespace
 
 int main(int count, char **words) {
@@ -310,4 +341,5 @@ int main(int count, char **words) {
     m.run(seconds / 2);
   }
   frames(seconds / 3);
+  books(seconds / 3);
 }

@@ -304,4 +304,16 @@ CALLED inline GustArrival arrive(GustRecord r, uint16_t x) {
   return {0, r.newest, r.marks | mark};
 }
 
+// ---- books
+
+// The sheet of a kind, a size and a source, searched for from the front.
+CALLED inline GustFound book_find(GustBook book, const uint8_t *bytes, uint64_t kind, uint64_t size, uint64_t source) {
+  for (size_t at = 0; at < book.used;) {
+    const uint64_t length = 4 + (uint64_t{bytes[at]} << 24 | bytes[at + 1] << 16 | bytes[at + 2] << 8 | bytes[at + 3]);
+    if (bytes[at + 4] && bytes[at + 5] == kind && bytes[at + 6] == size && get8(bytes + at + 8) == source) return {0, at, length};
+    at += length;
+  }
+  return {51, 0, 0};
+}
+
 }  // namespace same

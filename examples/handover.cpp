@@ -37,9 +37,10 @@ int main() {
   // they are.
   const std::vector<uint64_t> stopped = {places[1]}, cuts = {places[width + 1], places[width]};
   std::vector<uint64_t> ends(paths), hops(paths), wholes(paths);
-  const GustAnswer left = gust_bundle_survivors(kind, size, source, target, places.data(), places.size(), counts.data(), counts.size(), stopped.data(),
-                                                stopped.size(), cuts.data(), cuts.size(), ends.data(), ends.size(), hops.data(), hops.size(), wholes.data(),
-                                                wholes.size());
+  std::vector<uint32_t> zones(paths), served(paths);  // the build zone that each path serves, lent in and given back with its entry
+  const GustAnswer left = gust_bundle_survivors(kind, size, source, target, places.data(), places.size(), counts.data(), counts.size(), zones.data(),
+                                                zones.size(), stopped.data(), stopped.size(), cuts.data(), cuts.size(), ends.data(), ends.size(), hops.data(), hops.size(), wholes.data(),
+                                                wholes.size(), served.data(), served.size());
   for (size_t i = 0; i < paths; ++i)
     std::printf("copy %zu, %llu hops: %s\n", i, (unsigned long long)hops[i], wholes[i] ? "arrives" : "is lost");
   std::printf("%llu of %zu copies arrive\n", (unsigned long long)left.value, paths);

@@ -19,8 +19,8 @@
  * two-level mesh the slot's bits, then the block's.
  *
  * Refusals. Every call tells a number, 0 where all is well, and with some numbers a place or a path. No call that tells a number other than 0 changes
- * any slice, and then every other value it returns is 0, but for the working room of gust_way_round with 45, and the record that gust_arrive gives back as it was. Where several numbers apply, the first
- * in the order given with each function is told. */
+ * any slice, and then every other value it returns is 0, but for the working room of gust_way_round with 45, the record that gust_arrive gives back as it was, and
+ * the head that the calls of a book do. Where several numbers apply, the first in the order given with each function is told. */
 #ifndef GUSTPARSLEY_H
 #define GUSTPARSLEY_H
 
@@ -63,22 +63,32 @@ enum {
   GUST_NOT_FILLED = 25,      /* an unused place does not hold GUST_UNUSED; the first place */
   /* Flaws of a sheet: */
   GUST_CUT = 30,             /* fewer than 16 bytes, a wrong length field, or a path that runs out of bytes */
-  GUST_VERSION = 31,         /* the version is not 1 */
+  GUST_VERSION = 31,         /* the version is not one that the call reads or writes */
   GUST_NO_MESH = 32,         /* no such kind or size, or one that has no sheets */
   GUST_PATHS = 33,           /* no path, or more than a relay has links */
   GUST_HOPS = 34,            /* a path with no hops, or more than the longest has; its path */
   GUST_NOT_A_FAN = 35,       /* what is to be written fails the judge, or is of a mesh that has no sheets */
   GUST_LEFT_OVER = 36,       /* bytes are left over */
   GUST_LONE_PATH = 37,       /* a sheet with a single path of a two-level mesh */
+  GUST_ZONE = 38,            /* a zone that is not 0, where version 1 is to be written; its path */
   /* Frames that arrive: */
+  GUST_BOOK_THERE = 39,      /* the book has a sheet of this kind, size and source */
+  GUST_BOOK_FULL = 40,       /* the index of the book is full */
   GUST_FRAME_SEEN = 41,      /* a frame of this number was passed before */
   GUST_FRAME_OLD = 42,       /* the number is neither ahead of the newest nor among the newest 64 */
   /* Ways round what has stopped: */
   GUST_SOURCE_STOPPED = 43,  /* the source has stopped */
   GUST_TARGET_STOPPED = 44,  /* the target has stopped */
   GUST_NO_PATH = 45,         /* no path of running relays joins the two */
+  GUST_TOO_LARGE = 46,       /* a size that is too large for export */
+  GUST_MALFORMED = 47,       /* a line of a graph file is malformed; the place is its number, from 1 */
+  GUST_WRONG_COUNTS = 48,    /* a graph file has no `p` line, or one with other counts */
+  GUST_WRONG_LINK = 49,      /* a line of a graph file is no link, or is repeated; the place is its number, from 1 */
+  GUST_LINKS_MISSING = 50,   /* links are missing in a graph file */
   /* Kinds of mesh: */
-  GUST_NOT_SERVED = 52       /* the routine does not serve this kind */
+  GUST_BOOK_MISSING = 51,    /* the book has no sheet of this kind, size and source */
+  GUST_NOT_SERVED = 52,      /* the routine does not serve this kind */
+  GUST_BOOK_BAD = 53         /* no accepted or removed sheet, or one whose kind, size and source stand earlier in the book; its start */
 };
 
 /* ---- the region host's two calls. Each returns number * 256 + place, so 0 for success. (Every place told here is below 256.) */
@@ -153,20 +163,22 @@ GustVerdict gust_judge_bundle(uint64_t kind, uint64_t size, uint64_t source, uin
 
 /* Of a fan, which paths are whole: those on which no relay is in `stopped` and no two neighbouring relays are a pair of `cuts`, in either order. Pair j of `cuts` is
  * cuts[2j] and cuts[2j + 1]; a last number without a partner, and a pair that is no link, do nothing; with cuts_len 0 nothing is cut. Writes for path i its target to
- * ends[i], its hops to hops[i], and 1 to wholes[i] where it is whole, else 0; elements from k on stay as they were. The value is how many are whole: with the source
+ * ends[i], its hops to hops[i], 1 to wholes[i] where it is whole, else 0, and zones[i] to out_zones[i]; elements from k on stay as they were. The value is how many are whole: with the source
  * not stopped k - f at least, where f is how many different relays have stopped and different links are cut. Numbers, in this order: 1 to 7; 8 where there are fewer
- * than k * W places, k counts or k of ends, hops or wholes; then 20 to 25.
- * Changed: `cuts` and `cuts_len` are new, here and in gust_bundle_survivors; with any pointer that is not null and 0 they answer as before. */
+ * than k * W places, k counts, k zones or k of ends, hops, wholes or out_zones; then 20 to 25.
+ * Changed: `zones`, `zones_len` and `out_zones`, `out_zones_len` are new, here and in gust_bundle_survivors: the build zone of each path, of 32 bits. */
 GustAnswer gust_survivors(uint64_t kind, uint64_t size, uint64_t source, const uint64_t *targets, size_t targets_len, const uint64_t *places,
-                          size_t places_len, const uint64_t *counts, size_t counts_len, const uint64_t *stopped, size_t stopped_len, const uint64_t *cuts,
-                          size_t cuts_len, uint64_t *ends, size_t ends_len, uint64_t *hops, size_t hops_len, uint64_t *wholes, size_t wholes_len);
+                          size_t places_len, const uint64_t *counts, size_t counts_len, const uint32_t *zones, size_t zones_len, const uint64_t *stopped, size_t stopped_len,
+                          const uint64_t *cuts, size_t cuts_len, uint64_t *ends, size_t ends_len, uint64_t *hops, size_t hops_len, uint64_t *wholes, size_t wholes_len,
+                          uint32_t *out_zones, size_t out_zones_len);
 
 /* The same of a bundle: ends[i] is the target for every path. With neither end stopped, links - f paths at least are whole, f as above; where an end has stopped none
- * is. Numbers, in this order: 1, 52, 2, 5, 6; 8 as gust_bundle, or where there are fewer than links of ends, hops or wholes; then
+ * is. Numbers, in this order: 1, 52, 2, 5, 6; 8 as gust_bundle, or where there are fewer than links of zones, ends, hops, wholes or out_zones; then
  * 20 to 25. */
 GustAnswer gust_bundle_survivors(uint64_t kind, uint64_t size, uint64_t source, uint64_t target, const uint64_t *places, size_t places_len,
-                                 const uint64_t *counts, size_t counts_len, const uint64_t *stopped, size_t stopped_len, const uint64_t *cuts, size_t cuts_len,
-                                 uint64_t *ends, size_t ends_len, uint64_t *hops, size_t hops_len, uint64_t *wholes, size_t wholes_len);
+                                 const uint64_t *counts, size_t counts_len, const uint32_t *zones, size_t zones_len, const uint64_t *stopped, size_t stopped_len,
+                                 const uint64_t *cuts, size_t cuts_len, uint64_t *ends, size_t ends_len, uint64_t *hops, size_t hops_len, uint64_t *wholes, size_t wholes_len,
+                                 uint32_t *out_zones, size_t out_zones_len);
 
 /* Writes the sheet of a fan at the start of `out`; the value is its length in bytes. Bytes after it stay as they were. Numbers: 37 for kind 2 and a single
  * target, whatever else is asked; 35 of a mesh that has no sheets, and where the judge tells a number but 8; 8 where it tells 8, or where `out_len` is below the
@@ -181,6 +193,29 @@ GustAnswer gust_write_sheet(uint64_t kind, uint64_t size, uint64_t source, const
 GustReading gust_read_sheet(const uint8_t *bytes, size_t bytes_len, uint64_t *places, size_t places_len, uint64_t *counts, size_t counts_len,
                             uint64_t *targets, size_t targets_len);
 
+/* ---- sheets with zones. Version 2 of a sheet has a zone of 32 bits for each path, version 1 has none, which reads as 0 (docs/SHEETS.md). */
+
+/* What a sheet of either version tells: as GustReading, and its version, which is 0 where something stands against it. */
+typedef struct GustZonedReading {
+  uint64_t number, path, place, kind, size, source, paths, version;
+} GustZonedReading;
+
+/* Writes the sheet of a fan with a zone for each path, in version 1 or 2. Numbers: 37 as in gust_write_sheet; 31 for any version but 1 and 2; 35 and 8 by the judge, where too few
+ * zones are 8 as too few counts are; 38 with the first path whose zone is not 0, where the version is 1; 8 where `out_len` is below the length of the sheet. */
+GustAnswer gust_write_zoned_sheet(uint64_t version, uint64_t kind, uint64_t size, uint64_t source, const uint64_t *targets, size_t targets_len, const uint64_t *places,
+                                  size_t places_len, const uint64_t *counts, size_t counts_len, const uint32_t *zones, size_t zones_len, uint8_t *out, size_t out_len);
+
+/* Reads one sheet of either version, and fills k zones too. Numbers as in gust_read_sheet; 31 for any version but 1 and 2; 8 also where there are fewer than k zones, of version 1
+ * too. What it gives, gust_write_zoned_sheet writes back to the same bytes. */
+GustZonedReading gust_read_zoned_sheet(const uint8_t *bytes, size_t bytes_len, uint64_t *places, size_t places_len, uint64_t *counts, size_t counts_len, uint64_t *targets,
+                                       size_t targets_len, uint32_t *zones, size_t zones_len);
+
+/* Moves a sheet of version 1 to version 2, with zone 0 for each path, and one of version 2 back to version 1; the value is its length in bytes. Both ways round give the same bytes.
+ * Numbers: those of gust_read_sheet but its 8, with path and place, where the version that it does not start from is 31; on the way back 38 with the first path whose zone is not 0;
+ * and 8 where `out_len` is below the length of the sheet. `bytes` and `out` may not overlap. */
+GustAnswer gust_sheet_to_2(const uint8_t *bytes, size_t bytes_len, uint8_t *out, size_t out_len);
+GustAnswer gust_sheet_to_1(const uint8_t *bytes, size_t bytes_len, uint8_t *out, size_t out_len);
+
 /* A way round: writes a shortest path from `source` to `target` on which no relay is in `stopped`, both ends included, from place 0 of `out`; the value is its hops,
  * the fewest that any such path has. Which shortest path it is, where there are several, is the library's choice. Places after its last relay stay as they were. Equal ends
  * that run have 0 hops. For the two-level mesh of orders 1 to 3. Numbers in `stopped` that are no relay, or stand there twice, do nothing.
@@ -194,6 +229,25 @@ GustReading gust_read_sheet(const uint8_t *bytes, size_t bytes_len, uint64_t *pl
  * a.value is 6, and out begins with 0 2 3 7 6 4 5. */
 GustAnswer gust_way_round(uint64_t kind, uint64_t size, uint64_t source, uint64_t target, const uint64_t *stopped, size_t stopped_len, uint64_t *room,
                           size_t room_len, uint64_t *out, size_t out_len);
+
+/* ---- a mesh for tools that read graphs */
+
+/* Writes a mesh as a DIMACS edge file: a line `p edge N M` with the counts of relays and links, then a line `e U V` for each link, the lower relay first, ordered by the lower and then the
+ * higher; relays are numbered from 1, one above their numbers here. Each line ends with a newline. The value is how many bytes that is; bytes after them stay as they were. For cubes of 1 to 11
+ * dimensions and the two-level mesh of orders 1 to 3: 123,009 bytes are enough for each. Numbers, in this order: 1, 52, 46 for cubes of 12 dimensions or more and orders 4 and 5, 8 exactly where
+ * `out_len` is below the length of the text.
+ *
+ *     uint8_t out[35];
+ *     GustAnswer a = gust_write_graph(GUST_CUBE, 2, out, 35);
+ *
+ * a.value is 35, and out holds p edge 4 4, e 1 2, e 1 3, e 2 4 and e 3 4, each with a newline. */
+GustAnswer gust_write_graph(uint64_t kind, uint64_t size, uint8_t *out, size_t out_len);
+
+/* Reads a DIMACS edge file, and tells 0 exactly where it is that mesh with each link once. Lines whose first byte is `c` are comments, whatever follows; `e` lines may come in any order and either
+ * direction. Every other line is exactly `p edge N M` or `e U V`, with single spaces and decimal numbers below 2^64 without leading zeros. Numbers, in this order: 1, 52, 46; 47 with the first line
+ * that is malformed, from 1, as the place (an empty line, a carriage return, a second `p`, an `e` before it, and bytes after the last newline are malformed); 48 where there is no `p` line or its
+ * counts are others; 49 with the first `e` line that is no link or stands before in either direction; 50 where links are missing. It lends no room, and takes 4 KB of stack for marks. */
+GustVerdict gust_read_graph(uint64_t kind, uint64_t size, const uint8_t *text, size_t text_len);
 
 /* ---- frames that come in several copies */
 
@@ -214,6 +268,48 @@ typedef struct GustArrival {
  * 32,767 ahead of the newest, and then it becomes the newest; and where it is among the 64 newest, the newest included, and unmarked. The record to keep comes
  * back, which is the one given where the frame is refused. Numbers: 41 for one of the 64 newest that is marked, 42 for any other. */
 GustArrival gust_arrive(GustRecord record, uint16_t number);
+
+/* ---- books of sheets */
+
+/* A book keeps sheets of both versions in bytes that the caller owns, one after another, and beside them an index in order of kind, size and source. Its head is two
+ * numbers, which the caller keeps: how many bytes are in use, removed sheets counted, and how many places of the index. All zero is an empty book, over any slices.
+ * Of the bytes lent at most the first 65,536 are used, of the index at most 256 places. Lend the same bytes and index, and the head that came back, to each call.
+ * docs/BOOKS.md has both byte by byte. A book in which something else was written is not read or written beyond what is lent, but may answer anything. */
+typedef struct GustBook {
+  size_t used, entries;
+} GustBook;
+
+/* What becomes of a call, and the head to keep, which is the one given where it is refused. */
+typedef struct GustBooked {
+  uint64_t number, path, place;
+  GustBook book;
+} GustBooked;
+
+/* Where a sheet starts in the bytes, and its length. */
+typedef struct GustFound {
+  uint64_t number, start, length;
+} GustFound;
+
+/* Adds one sheet behind the last; where there is no room behind it, closes the book up first, as gust_book_close does. Numbers: what reading it would tell but 8, with path and
+ * place (30, 31, 32, 33, 37, 34, 36, 2, 5, 6, 7, 22, 24); then 39, 40, and 8 exactly where the sheets that are not removed and the new one are together longer than the bytes lent,
+ * or than 65,536. A refusal changes nothing: the book is then not closed up either. */
+GustBooked gust_book_add(GustBook book, uint8_t *bytes, size_t bytes_len, uint64_t *index, size_t index_len, const uint8_t *sheet, size_t sheet_len);
+
+/* Finds the sheet of a kind, a size and a source: it is the `length` bytes from `start` on, which lie within the bytes lent. Number: 51. */
+GustFound gust_book_find(GustBook book, const uint8_t *bytes, size_t bytes_len, const uint64_t *index, size_t index_len, uint64_t kind, uint64_t size,
+                         uint64_t source);
+
+/* Removes it: its version byte becomes 0, and its place goes out of the index. Its bytes stay in use. Number: 51, and then nothing is changed. */
+GustBooked gust_book_remove(GustBook book, uint8_t *bytes, size_t bytes_len, uint64_t *index, size_t index_len, uint64_t kind, uint64_t size, uint64_t source);
+
+/* Closes a book up, and gives the head to keep: the sheets that are not removed move down in their order, their bytes unchanged, over those that are; the index follows, and every
+ * sheet is found that was found before, at its new start. Bytes from the new end on stay as they were. Nothing is refused. */
+GustBook gust_book_close(GustBook book, uint8_t *bytes, size_t bytes_len, uint64_t *index, size_t index_len);
+
+/* What a restarting host calls: given exactly the used bytes of a book, works the index out afresh and gives the head. Numbers: 53 with the start of the first piece that
+ * is no accepted or removed sheet, or whose kind, size and source stand earlier; 40 where the index is too short. Then nothing is changed, and the head is that of an
+ * empty book. */
+GustBooked gust_book_open(const uint8_t *bytes, size_t bytes_len, uint64_t *index, size_t index_len);
 
 #ifdef __cplusplus
 }

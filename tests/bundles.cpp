@@ -76,7 +76,8 @@ void judged(const Bundle &b, const Failed &fails, size_t e, size_t h, size_t w) 
   same("judge of bundles: place", m, b.source, v.place, told.place);
 
   const size_t k = m.known() ? m.links() : 0;
-  const Told all = m.judge_bundle(b.source, b.target, b.places, b.counts, e < k || h < k || w < k);
+  Lent<uint32_t> zones(below(9) ? k + below(2) : k - (k > 0)), sites(below(9) ? k + below(2) : k - (k > 0));
+  const Told all = m.judge_bundle(b.source, b.target, b.places, b.counts, e < k || h < k || w < k || zones.size() < k || sites.size() < k);
   Words whole;
   uint64_t count = 0;
   for (size_t i = 0; !all.number && i < k; ++i) {
@@ -84,16 +85,17 @@ void judged(const Bundle &b, const Failed &fails, size_t e, size_t h, size_t w) 
     whole.push_back(ok);
     count += ok;
   }
-  const GustAnswer a = gust_bundle_survivors(m.kind, m.size, b.source, b.target, places.data(), places.size(), counts.data(), counts.size(), stops.data(),
-                                             stops.size(), cuts.data(), cuts.size(), ends.data(), e, hops.data(), h, wholes.data(), w);
+  const GustAnswer a = gust_bundle_survivors(m.kind, m.size, b.source, b.target, places.data(), places.size(), counts.data(), counts.size(), zones.data(),
+                                             zones.size(), stops.data(), stops.size(), cuts.data(), cuts.size(), ends.data(), e, hops.data(), h, wholes.data(), w, sites.data(), sites.size());
   answered("survivors of bundles", m, b.source, a, all, count);
-  held("bundles: what is read", places.untouched() && counts.untouched() && stops.untouched() && cuts.untouched(), m, b.source);
+  held("bundles: what is read", places.untouched() && counts.untouched() && stops.untouched() && cuts.untouched() && zones.untouched(), m, b.source);
   if (all.number) {
-    held("survivors of bundles: columns of a refusal", ends.untouched() && hops.untouched() && wholes.untouched(), m, b.source);
+    held("survivors of bundles: columns of a refusal", ends.untouched() && hops.untouched() && wholes.untouched() && sites.untouched(), m, b.source);
     return;
   }
   const Words first(b.counts.begin(), b.counts.begin() + k);
-  held("survivors of bundles: columns", ends.holds(Words(k, b.target)) && hops.holds(first) && wholes.holds(whole), m, b.source);
+  const std::vector<uint32_t> given = zones.now();
+  held("survivors of bundles: columns", ends.holds(Words(k, b.target)) && hops.holds(first) && wholes.holds(whole) && sites.holds({given.begin(), given.begin() + k}), m, b.source);
   if (fails.has_stopped(b.source) || fails.has_stopped(b.target))
     same("survivors of bundles: an end stopped", m, b.source, a.value, 0);
   else
@@ -248,8 +250,11 @@ void cases() {
   const Bundle bare = bundle(ring, 0, 1);
   const Words back{1, 0};
   Words ends(2), hops(2), wholes(2);
-  const GustAnswer left = gust_bundle_survivors(2, 1, 0, 1, bare.places.data(), bare.places.size(), bare.counts.data(), 2, back.data(), 0, back.data(), 2,
-                                                ends.data(), 2, hops.data(), 2, wholes.data(), 2);
+  const std::vector<uint32_t> zones{258, 7};
+  std::vector<uint32_t> sites(2);
+  const GustAnswer left = gust_bundle_survivors(2, 1, 0, 1, bare.places.data(), bare.places.size(), bare.counts.data(), 2, zones.data(), 2, back.data(), 0, back.data(), 2,
+                                                ends.data(), 2, hops.data(), 2, wholes.data(), 2, sites.data(), 2);
+  is("order 1, 0 to 1, zones", sites == zones);
   is("order 1, 0 to 1, that link cut", left.number == 0 && left.value == 1 && wholes == Words{0, 1});
   bundle(ring, 0, 5, 23, 2);
   bundle(ring, 0, 5, 24, 2);

@@ -341,7 +341,8 @@ void judged(const Fan &f, const Failed &fails, size_t e, size_t h, size_t w) {
   same("judge: path", m, f.source, v.path, told.path);
   same("judge: place", m, f.source, v.place, told.place);
 
-  const Told all = m.judge(f.source, f.targets, f.places, f.counts, e < k || h < k || w < k);
+  Lent<uint32_t> zones(below(9) ? k + below(2) : k - (k > 0)), sites(below(9) ? k + below(2) : k - (k > 0));
+  const Told all = m.judge(f.source, f.targets, f.places, f.counts, e < k || h < k || w < k || zones.size() < k || sites.size() < k);
   Words whole;
   uint64_t count = 0;
   for (size_t i = 0; !all.number && i < k; ++i) {
@@ -350,14 +351,16 @@ void judged(const Fan &f, const Failed &fails, size_t e, size_t h, size_t w) {
     count += ok;
   }
   const GustAnswer a = gust_survivors(m.kind, m.size, f.source, targets.data(), targets.size(), places.data(), places.size(), counts.data(), counts.size(),
-                                      stops.data(), stops.size(), cuts.data(), cuts.size(), ends.data(), ends.size(), hops.data(), hops.size(),
-                                      wholes.data(), wholes.size());
+                                      zones.data(), zones.size(), stops.data(), stops.size(), cuts.data(), cuts.size(), ends.data(), ends.size(), hops.data(), hops.size(),
+                                      wholes.data(), wholes.size(), sites.data(), sites.size());
+  held("survivors: zones", zones.untouched(), m, f.source);
   answered("survivors", m, f.source, a, all, count);
   if (all.number) {
-    held("survivors: columns", ends.untouched() && hops.untouched() && wholes.untouched(), m, f.source);
+    held("survivors: columns", ends.untouched() && hops.untouched() && wholes.untouched() && sites.untouched(), m, f.source);
   } else {
     const Words first(f.counts.begin(), f.counts.begin() + k);
-    held("survivors: columns", ends.holds(f.targets) && hops.holds(first) && wholes.holds(whole), m, f.source);
+    const std::vector<uint32_t> given = zones.now();
+    held("survivors: columns", ends.holds(f.targets) && hops.holds(first) && wholes.holds(whole) && sites.holds({given.begin(), given.begin() + k}), m, f.source);
     if (fails.has_stopped(f.source))
       same("survivors: the source stopped", m, f.source, a.value, 0);
     else

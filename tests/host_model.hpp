@@ -269,12 +269,15 @@ inline uint64_t number(const Bytes &from, size_t at, int n) {
   return value;
 }
 
-// The sheet of k paths that lie as lent.
-inline Bytes sheet(const Mesh &mesh, uint64_t s, size_t k, const Words &places, const Words &counts) {
-  Bytes body{1, static_cast<uint8_t>(mesh.kind), static_cast<uint8_t>(mesh.size), static_cast<uint8_t>(k)};
+using Zones = std::vector<uint32_t>;
+
+// The sheet of k paths that lie as lent; in version 2 with their zones.
+inline Bytes sheet(const Mesh &mesh, uint64_t s, size_t k, const Words &places, const Words &counts, uint8_t version = 1, const Zones &zones = {}) {
+  Bytes body{version, static_cast<uint8_t>(mesh.kind), static_cast<uint8_t>(mesh.size), static_cast<uint8_t>(k)};
   put(body, s, 8);
   for (size_t i = 0; i < k; ++i) {
     put(body, counts[i], 2);
+    if (version == 2) put(body, zones[i], 4);
     for (size_t p = 1; p <= counts[i]; ++p) put(body, places[i * mesh.width() + p], 8);
   }
   Bytes all;
@@ -289,10 +292,14 @@ struct Reading {
   uint64_t source = 0;
   size_t k = 0;
   Words places, counts, targets;
+  uint64_t version = 0;
+  Zones zones;
 };
 
-// What the reader says of bytes, with so many places, counts and places for targets.
-inline Reading read(const Bytes &bytes, size_t places, size_t counts, size_t targets) {
+constexpr size_t kRoom = ~size_t{0};
+
+// What the reader of those versions says of bytes, with so many places, counts, and places for targets and zones.
+inline Reading read(const Bytes &bytes, size_t places, size_t counts, size_t targets, const std::set<uint64_t> &versions = {1}, size_t zones = kRoom) {
   Reading r;
   const auto flaw = [](uint64_t n, uint64_t path = 0, uint64_t place = 0) {
     Reading bad;
@@ -300,22 +307,25 @@ inline Reading read(const Bytes &bytes, size_t places, size_t counts, size_t tar
     return bad;
   };
   if (bytes.size() < 16 || number(bytes, 0, 4) != bytes.size() - 4) return flaw(30);
-  if (bytes[4] != 1) return flaw(31);
+  if (!versions.count(bytes[4])) return flaw(31);
+  r.version = bytes[4];
   r.mesh = {bytes[5], bytes[6]};
   if (!r.mesh.planned()) return flaw(32);
   r.k = bytes[7];
   if (r.k == 0 || r.k > r.mesh.links()) return flaw(33);
   if (r.mesh.lone(r.k)) return flaw(37);
   const size_t w = r.mesh.width();
-  if (places < r.k * w || counts < r.k || targets < r.k) return flaw(8);
+  if (places < r.k * w || counts < r.k || targets < r.k || zones < r.k) return flaw(8);
   r.source = number(bytes, 8, 8);
   size_t at = 16;
   for (size_t i = 0; i < r.k; ++i) {
     if (bytes.size() - at < 2) return flaw(30);
     const uint64_t h = number(bytes, at, 2);
     if (h == 0 || h > r.mesh.longest()) return flaw(34, i);
-    at += 2;
-    if (bytes.size() - at < 8 * h) return flaw(30);
+    const size_t head = r.version == 2 ? 6 : 2;
+    if (bytes.size() - at < head + 8 * h) return flaw(30);
+    r.zones.push_back(r.version == 2 ? number(bytes, at + 2, 4) : 0);
+    at += head;
     r.counts.push_back(h);
     r.places.push_back(r.source);
     for (size_t p = 0; p < h; ++p, at += 8) r.places.push_back(number(bytes, at, 8));

@@ -360,8 +360,9 @@ def worked():
     blocks = re.findall(r"```\n(.*?)```", text, re.S)
     shown = [" ".join(re.findall(r"\b[0-9a-f]{2}\b", "\n".join(line[:32] for line in block.split("\n")))) for block in blocks]
     second = sheet(1, 2, 0, [[2, 3], [1]])
-    assert shown == [in_hex(case_i), in_hex(second)], shown
-    # the table of damaged sheets: number, path and place, and the byte that is changed in the second sheet or the first
+    zoned = bytes([0, 0, 0, 26, 2]) + case_i[5:18] + (258).to_bytes(4, "big") + case_i[18:]
+    assert shown == [in_hex(case_i), in_hex(zoned), in_hex(second)], shown
+    # the table of damaged sheets: number, path and place, and the byte that is changed in the last sheet or the first
     rows = re.findall(r"^\| (\d+) \| (\d+) \| (\d+) \| byte (\d+)( of the first)? set to ([0-9a-f]{2}) \|", text, re.M)
     for *told, at, first, value in rows:
         good = case_i if first else second

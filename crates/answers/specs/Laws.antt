@@ -9,7 +9,7 @@ use lib.Dec.{eqb, leb}
 use Rattle.scan.specs.Scan.{pick}
 use Rattle.answers.specs.Told.{number, place, Told, told, tell, answerTold, yesNoTold, checkedTold, against}
 use Rattle.answers.specs.declared.Refusal.{Refusal}
-use Rattle.answers.specs.declared.Refusal.the-variants.{Unreadable, UnknownSize, NotServed, NoDistance, SourceOut, NoTarget, TooMany, TargetOut, TargetIsSource, TargetAgain, BadDoors, SourceStopped, TargetStopped, NoRoom, NoPath}
+use Rattle.answers.specs.declared.Refusal.the-variants.{Unreadable, UnknownSize, NotServed, NoDistance, SourceOut, NoTarget, TooMany, TargetOut, TargetIsSource, TargetAgain, BadDoors, SourceStopped, TargetStopped, TooLarge, NoRoom, NoPath}
 use Rattle.answers.specs.declared.Answer.{Answer}
 use Rattle.answers.specs.declared.Answer.the-variants as answer
 use Rattle.answers.specs.declared.Checked.{Checked}
@@ -37,7 +37,8 @@ refusal n p =
     (pick (eqb n 11) BadDoors
     (pick (eqb n 43) SourceStopped
     (pick (eqb n 44) TargetStopped
-    (pick (eqb n 45) NoPath NoRoom)))))))))))))
+    (pick (eqb n 46) TooLarge
+    (pick (eqb n 45) NoPath NoRoom))))))))))))))
 
 pub refusal-back : (why : Refusal) → refusal (number why) (place why) ≡ why
 unfolding refusal
@@ -54,6 +55,7 @@ refusal-back (TargetAgain p) = refl
 refusal-back BadDoors = refl
 refusal-back SourceStopped = refl
 refusal-back TargetStopped = refl
+refusal-back TooLarge = refl
 refusal-back NoRoom = refl
 refusal-back NoPath = refl
 
@@ -73,6 +75,7 @@ number-apart (TargetAgain p) = (refl, refl)
 number-apart BadDoors = (refl, refl)
 number-apart SourceStopped = (refl, refl)
 number-apart TargetStopped = (refl, refl)
+number-apart TooLarge = (refl, refl)
 number-apart NoRoom = (refl, refl)
 number-apart NoPath = (refl, refl)
 
@@ -91,6 +94,7 @@ number-few (TargetAgain p) = omega arith
 number-few BadDoors = omega arith
 number-few SourceStopped = omega arith
 number-few TargetStopped = omega arith
+number-few TooLarge = omega arith
 number-few NoRoom = omega arith
 number-few NoPath = omega arith
 

@@ -12,7 +12,7 @@ use lib.ListN.{length, getD}
 use Rattle.scan.specs.Scan.{Spot, nowhere, at, pick, seek, among}
 use Rattle.answers.specs.Told.{number}
 use Rattle.answers.specs.declared.Refusal.{Refusal}
-use Rattle.answers.specs.declared.Refusal.the-variants.{Unreadable, UnknownSize, NotServed, NoDistance, SourceOut, NoTarget, TooMany, TargetOut, TargetIsSource, TargetAgain, BadDoors, SourceStopped, TargetStopped, NoRoom, NoPath}
+use Rattle.answers.specs.declared.Refusal.the-variants.{Unreadable, UnknownSize, NotServed, NoDistance, SourceOut, NoTarget, TooMany, TargetOut, TargetIsSource, TargetAgain, BadDoors, SourceStopped, TargetStopped, TooLarge, NoRoom, NoPath}
 
 -- ---- faults
 
@@ -143,6 +143,10 @@ doorFaults bad = fault bad BadDoors ∷ []
 abbrev pub haltFaults : (source target : Bool) → List Fault
 haltFaults source target = fault source SourceStopped ∷ fault target TargetStopped ∷ []
 
+-- 46: of a size that is too large for export
+abbrev pub exportFaults : (large : Bool) → List Fault
+exportFaults large = fault large TooLarge ∷ []
+
 -- 8: a lent slice that is too short
 abbrev pub roomFaults : (room : Bool) → List Fault
 roomFaults room = fault room NoRoom ∷ []
@@ -151,7 +155,7 @@ roomFaults room = fault room NoRoom ∷ []
 
 -- the numbers of the refusals in the order in which they are told
 abbrev pub table : List ℕ
-table = 10 ∷ 1 ∷ 52 ∷ 9 ∷ 2 ∷ 3 ∷ 4 ∷ 5 ∷ 6 ∷ 7 ∷ 11 ∷ 43 ∷ 44 ∷ 8 ∷ []
+table = 10 ∷ 1 ∷ 52 ∷ 46 ∷ 9 ∷ 2 ∷ 3 ∷ 4 ∷ 5 ∷ 6 ∷ 7 ∷ 11 ∷ 43 ∷ 44 ∷ 8 ∷ []
 
 -- the numbers that a list of faults tells, whatever its tests say
 abbrev pub numbers : List Fault → List ℕ

@@ -5,7 +5,7 @@ use mathlib.Core.Bool.{Bool, true, false}
 use mathlib.Core.List.{List}
 use mathlib.Core.Option.{Option, none, some}
 use Rattle.answers.specs.declared.Refusal.{Refusal}
-use Rattle.answers.specs.declared.Refusal.the-variants.{Unreadable, UnknownSize, NotServed, NoDistance, SourceOut, NoTarget, TooMany, TargetOut, TargetIsSource, TargetAgain, BadDoors, SourceStopped, TargetStopped, NoRoom, NoPath}
+use Rattle.answers.specs.declared.Refusal.the-variants.{Unreadable, UnknownSize, NotServed, NoDistance, SourceOut, NoTarget, TooMany, TargetOut, TargetIsSource, TargetAgain, BadDoors, SourceStopped, TargetStopped, TooLarge, NoRoom, NoPath}
 use Rattle.answers.specs.declared.Answer.{Answer}
 use Rattle.answers.specs.declared.Answer.the-variants as answer
 use Rattle.answers.specs.declared.Checked.{Checked}
@@ -28,6 +28,7 @@ number (TargetAgain p) = 7
 number BadDoors = 11
 number SourceStopped = 43
 number TargetStopped = 44
+number TooLarge = 46
 number NoRoom = 8
 number NoPath = 45
 
@@ -46,6 +47,7 @@ place (TargetAgain p) = p
 place BadDoors = 0
 place SourceStopped = 0
 place TargetStopped = 0
+place TooLarge = 0
 place NoRoom = 0
 place NoPath = 0
 

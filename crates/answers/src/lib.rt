@@ -30,6 +30,8 @@ pub enum Refusal {
     SourceStopped,
     // 44: the target has stopped.
     TargetStopped,
+    // 46: a size that is too large for export.
+    TooLarge,
     // 8: a lent slice is too short.
     NoRoom,
     // 45: no path of running relays joins the two.
@@ -74,6 +76,7 @@ impl Refusal {
             Refusal::BadDoors => 11,
             Refusal::SourceStopped => 43,
             Refusal::TargetStopped => 44,
+            Refusal::TooLarge => 46,
             Refusal::NoRoom => 8,
             Refusal::NoPath => 45,
         }
@@ -97,6 +100,7 @@ impl Refusal {
             Refusal::BadDoors => 0,
             Refusal::SourceStopped => 0,
             Refusal::TargetStopped => 0,
+            Refusal::TooLarge => 0,
             Refusal::NoRoom => 0,
             Refusal::NoPath => 0,
         }

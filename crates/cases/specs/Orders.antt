@@ -3,8 +3,8 @@
 use Prim.Native.Nat.{ℕ}
 use mathlib.Core.Path.{_≡_, refl}
 use mathlib.Core.Bool.{Bool, true}
-use mathlib.Core.List.{List}
-use Rattle.answers.specs.Order.{Fault, inOrder}
+use mathlib.Core.List.{List, _++_}
+use Rattle.answers.specs.Order.{Fault, inOrder, roomFaults}
 use Rattle.cube.specs.Says as cube
 use Rattle.two.specs.Says as two
 use Rattle.meta.specs.Says as meta
@@ -15,6 +15,7 @@ use Rattle.cube_plan.specs.Says as doors
 use Rattle.line.specs.Says.{lineFaults}
 use Rattle.region.specs.Says.{planFaults}
 use Rattle.around.specs.Says.{roundFaultsIn}
+use Rattle.dimacs.specs.Says.{exportFaultsIn}
 
 abbrev Ordered : List Fault → Type 0
 Ordered l = inOrder l ≡ true
@@ -38,6 +39,9 @@ pub record Orders : Type 0 where
   pub through : (n s d : ℕ) (targets places counts : List ℕ) → Ordered (doors.throughFaults n s d targets places counts)
   -- a way round
   pub rounds : (K : Kind) (n s t : ℕ) (stopped : List ℕ) (room : Bool) → Ordered (roundFaultsIn K n s t stopped room)
+  -- a graph file, read and written
+  pub graph : (K : Kind) (n : ℕ) → Ordered (exportFaultsIn K n)
+  pub graph-written : (K : Kind) (n : ℕ) (room : Bool) → Ordered (exportFaultsIn K n ++ roomFaults room)
   -- a line of text; the host's plan, before 37 and 8
   pub line : (unreadable room : Bool) → Ordered (lineFaults unreadable room)
   pub plan : (kind size s : ℕ) (bytes : List ℕ) → Ordered (planFaults kind size s bytes)
@@ -57,6 +61,8 @@ orders = record {
   cube-plan = λ n s targets places counts. refl;
   through = λ n s d targets places counts. refl;
   rounds = λ K n s t stopped room. refl;
+  graph = λ K n. refl;
+  graph-written = λ K n room. refl;
   line = λ unreadable room. refl;
   plan = λ kind size s bytes. refl;
 }

@@ -138,7 +138,7 @@ capped-length room zeros {m} z e = length-take-le m zeros (omega (arith, capped-
 
 module _ (q : Asked) (many : order.first (q .faults) ≡ none → length (q .targets) ≤ MOST) (places counts : List ℕ) (fails : Failed) (room m : ℕ) (t : Tally)
     (zeros ends₁ hops₁ wholes₁ : List ℕ) (z : length zeros ≡ MOST) (cap : m ≡ capped room)
-    (p : Survived q places counts fails (take m zeros) (take m zeros) (take m zeros) t ends₁ hops₁ wholes₁) where
+    (p : Survived false q places counts fails (take m zeros) (take m zeros) (take m zeros) t ends₁ hops₁ wholes₁) where
   abbrev k : ℕ
   k = length (q .targets)
 
@@ -147,7 +147,7 @@ module _ (q : Asked) (many : order.first (q .faults) ≡ none → length (q .tar
 
   -- what stands against the columns that were lent, and against the list of entries
   abbrev lent : Option Refusal
-  lent = askedAgainst q places counts (lacking (q .targets) (take m zeros) (take m zeros) (take m zeros))
+  lent = askedAgainst q places counts (lacking false (q .targets) (take m zeros) (take m zeros) (take m zeros))
 
   abbrev asked : Option Refusal
   asked = askedAgainst q places counts (ltb room k)

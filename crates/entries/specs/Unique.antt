@@ -2,7 +2,7 @@
 -- (`listed-agrees`), and after a count the entry of each path is what the promise says of it (`listed-at`). Assumes nothing.
 use Prim.Native.Nat.{ℕ, zero, suc, _<_}
 use mathlib.Core.Path.{_≡_, sym, ap, _∙_}
-use mathlib.Core.Bool.{Bool}
+use mathlib.Core.Bool.{Bool, false}
 use mathlib.Core.List.{List, [], _∷_, _++_}
 use native.Mathlib.Omega.{arith}
 use native.Mathlib.Decide.{ℕ-discrete}
@@ -32,7 +32,7 @@ listed-unique q places counts fails out a b out₁ out₂ p r = (tally-unique a 
 -- the columns are each as long as the list
 pub listed-agrees : (q : Asked) (places counts : List ℕ) (fails : Failed) (ends hops wholes : List ℕ) (out : List Entry) (a b : Tally) (out₁ : List Entry) (ends₁ hops₁ wholes₁ : List ℕ)
     → length ends ≡ length out → length hops ≡ length out → length wholes ≡ length out
-    → Listed q places counts fails out a out₁ → Survived q places counts fails ends hops wholes b ends₁ hops₁ wholes₁ → a ≡ b
+    → Listed q places counts fails out a out₁ → Survived false q places counts fails ends hops wholes b ends₁ hops₁ wholes₁ → a ≡ b
 listed-agrees q places counts fails ends hops wholes out a b out₁ ends₁ hops₁ wholes₁ e h w p r =
     let k = length (q .targets) in
     let alike : few k (length ends) (length hops) (length wholes) ≡ ltb (length out) k = rw e (rw h (rw w (few-alike k (length out)))) in

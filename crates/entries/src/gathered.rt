@@ -87,7 +87,7 @@ pub fn gather<'b>(
     let mut ends = [0u64; MOST];
     let mut hops = [0u64; MOST];
     let mut wholes = [0u64; MOST];
-    let tally = survivors::survivors(
+    let tally = survivors::three(
         mesh,
         source,
         targets,
@@ -95,6 +95,7 @@ pub fn gather<'b>(
         counts,
         stopped,
         cuts,
+        false,
         &mut ends[..n],
         &mut hops[..n],
         &mut wholes[..n],
@@ -126,7 +127,7 @@ pub fn gather_bundle<'b>(
     let mut ends = [0u64; MOST];
     let mut hops = [0u64; MOST];
     let mut wholes = [0u64; MOST];
-    let tally = survivors::bundle_survivors(
+    let tally = survivors::bundle_three(
         mesh,
         source,
         target,
@@ -134,6 +135,7 @@ pub fn gather_bundle<'b>(
         counts,
         stopped,
         cuts,
+        false,
         &mut ends[..n],
         &mut hops[..n],
         &mut wholes[..n],

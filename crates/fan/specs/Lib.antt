@@ -1,3 +1,2 @@
--- The program: what it reads, and its buffers.
-pub mod Says
+-- The program's buffers.
 pub mod Buffers

@@ -3,3 +3,4 @@ pub mod Says
 pub mod Laws
 pub mod Unique
 pub mod Ways
+pub mod Graphs

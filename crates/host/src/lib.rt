@@ -1,12 +1,22 @@
 // The library for programs in C and C++: every routine as an exported function over numbers and slices. include/gustparsley.h declares them.
+mod books;
 mod calls;
 mod frames;
+mod graphs;
 mod routines;
 mod ways;
+mod zones;
 
+pub use books::gust_book_add;
+pub use books::gust_book_close;
+pub use books::gust_book_find;
+pub use books::gust_book_open;
+pub use books::gust_book_remove;
 pub use calls::gust_next_hop;
 pub use calls::gust_plan;
 pub use frames::gust_arrive;
+pub use graphs::gust_read_graph;
+pub use graphs::gust_write_graph;
 pub use routines::gust_bundle;
 pub use routines::gust_bundle_survivors;
 pub use routines::gust_distance;
@@ -20,3 +30,7 @@ pub use routines::gust_route;
 pub use routines::gust_survivors;
 pub use routines::gust_write_sheet;
 pub use ways::gust_way_round;
+pub use zones::gust_read_zoned_sheet;
+pub use zones::gust_sheet_to_1;
+pub use zones::gust_sheet_to_2;
+pub use zones::gust_write_zoned_sheet;

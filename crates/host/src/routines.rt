@@ -183,13 +183,15 @@ pub extern "C" fn gust_survivors(
     targets: &[u64],
     places: &[u64],
     counts: &[u64],
+    zones: &[u32],
     stopped: &[u64],
     cuts: &[u64],
     ends: &mut [u64],
     hops: &mut [u64],
     wholes: &mut [u64],
+    sites: &mut [u32],
 ) -> GustAnswer
-    ensures { λ r. ⌜ SurvivedIn (fanAsked (kindOf kind) size source (now (targets .entry))) (now (places .entry)) (now (counts .entry)) (failed (now (stopped .entry)) (now (cuts .entry))) (now (ends .entry)) (now (hops .entry)) (now (wholes .entry)) r (now (ends .exit)) (now (hops .exit)) (now (wholes .exit)) ⌝ }
+    ensures { λ r. ⌜ SurvivedIn (fanAsked (kindOf kind) size source (now (targets .entry))) (now (places .entry)) (now (counts .entry)) (now (zones .entry)) (failed (now (stopped .entry)) (now (cuts .entry))) (now (ends .entry)) (now (hops .entry)) (now (wholes .entry)) (now (sites .entry)) r (now (ends .exit)) (now (hops .exit)) (now (wholes .exit)) (now (sites .exit)) ⌝ }
 {
     shapes::of_tally(survivors::survivors(
         Mesh {
@@ -200,11 +202,13 @@ pub extern "C" fn gust_survivors(
         targets,
         places,
         counts,
+        zones,
         stopped,
         cuts,
         ends,
         hops,
         wholes,
+        sites,
     ))
 }
 
@@ -217,13 +221,15 @@ pub extern "C" fn gust_bundle_survivors(
     target: u64,
     places: &[u64],
     counts: &[u64],
+    zones: &[u32],
     stopped: &[u64],
     cuts: &[u64],
     ends: &mut [u64],
     hops: &mut [u64],
     wholes: &mut [u64],
+    sites: &mut [u32],
 ) -> GustAnswer
-    ensures { λ r. ⌜ SurvivedIn (bundleAsked (kindOf kind) size source target) (now (places .entry)) (now (counts .entry)) (failed (now (stopped .entry)) (now (cuts .entry))) (now (ends .entry)) (now (hops .entry)) (now (wholes .entry)) r (now (ends .exit)) (now (hops .exit)) (now (wholes .exit)) ⌝ }
+    ensures { λ r. ⌜ SurvivedIn (bundleAsked (kindOf kind) size source target) (now (places .entry)) (now (counts .entry)) (now (zones .entry)) (failed (now (stopped .entry)) (now (cuts .entry))) (now (ends .entry)) (now (hops .entry)) (now (wholes .entry)) (now (sites .entry)) r (now (ends .exit)) (now (hops .exit)) (now (wholes .exit)) (now (sites .exit)) ⌝ }
 {
     shapes::of_tally(survivors::bundle_survivors(
         Mesh {
@@ -234,11 +240,13 @@ pub extern "C" fn gust_bundle_survivors(
         target,
         places,
         counts,
+        zones,
         stopped,
         cuts,
         ends,
         hops,
         wholes,
+        sites,
     ))
 }
 

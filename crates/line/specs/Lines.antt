@@ -43,7 +43,7 @@ fields-complete (n ∷ ns) (suc room) seen rest h b =
     ∙ fields-complete ns room (seen ++ (n ∷ [])) rest (omega arith) (λ i g. b (suc i) (omega arith))
     ∙ ap some (append-assoc seen (n ∷ []) ns)
 
-begins-complete : (ws l : List ℕ) → begins ws (ws ++ l) ≡ true
+pub begins-complete : (ws l : List ℕ) → begins ws (ws ++ l) ≡ true
 begins-complete [] l = refl
 begins-complete (w ∷ ws) l = rw (eq-eqb w w refl) (begins-complete ws l)
 
@@ -111,7 +111,7 @@ not-end : (x : Number) {A : Type 0} → fieldOf x ≡ end → A
 not-end bad e = field-not refl e
 not-end (got m l) e = field-is end refl (sym e)
 
-item-sound : (text : List ℕ) {n : ℕ} {rest : List ℕ} → field text ≡ item n rest → Item text n rest
+pub item-sound : (text : List ℕ) {n : ℕ} {rest : List ℕ} → field text ≡ item n rest → Item text n rest
 item-sound [] e = field-no field-none e
 item-sound (b ∷ l) {n} {rest} e = go (ℕ-discrete b 10) (ℕ-discrete b 32)
   where
@@ -122,7 +122,7 @@ item-sound (b ∷ l) {n} {rest} e = go (ℕ-discrete b 10) (ℕ-discrete b 32)
         let r = number-sound l n rest (got-of (number l) (sym (ap (λ (x : ℕ). field (x ∷ l)) q ∙ field-space l) ∙ e)) in
         record { text-is = ap (λ (x : ℕ). x ∷ l) q ∙ ap (λ (m : List ℕ). 32 ∷ m) (r .spelt); below = r .below }
 
-end-sound : (text : List ℕ) → field text ≡ end → (rest : List ℕ) × (text ≡ 10 ∷ rest)
+pub end-sound : (text : List ℕ) → field text ≡ end → (rest : List ℕ) × (text ≡ 10 ∷ rest)
 end-sound [] e = field-not field-none e
 end-sound (b ∷ l) e = go (ℕ-discrete b 10) (ℕ-discrete b 32)
   where

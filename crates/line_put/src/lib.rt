@@ -32,7 +32,7 @@ fn put_list(out: &mut [u8], at: usize, list: &[u64]) -> usize
 }
 
 // The same and a line end.
-fn put_line(out: &mut [u8], at: usize, list: &[u64]) -> usize
+pub fn put_line(out: &mut [u8], at: usize, list: &[u64]) -> usize
     requires { ⌜ at + length (spaced (now list) ++ lineEnd) ≤ length (now out) ⌝ }
     ensures { λ r. ⌜ Put (now (out .entry)) at (spaced (now (list .entry)) ++ lineEnd) r (now (out .exit)) ⌝ }
 {

@@ -8,7 +8,7 @@ use decimal::Number;
 use mesh::Mesh;
 
 // What stands next: a number after a space, with the place after it; the line end; or what no line has there.
-enum Field {
+pub enum Field {
     Item(u64, usize),
     End,
     Broken,
@@ -26,7 +26,7 @@ pub enum Word {
     Other,
 }
 
-fn next_field(text: &[u8], at: usize) -> Field
+pub fn next_field(text: &[u8], at: usize) -> Field
     ensures { λ r. ⌜ reads.ReadField (now (text .entry)) at r ⌝ }
 {
     if text.len() <= at {
@@ -73,7 +73,7 @@ pub fn all_fields(text: &[u8], at: usize, out: &mut [u64]) -> Fields
     Fields::Broken
 }
 
-fn begins(text: &[u8], word: &[u8]) -> bool
+pub fn begins(text: &[u8], word: &[u8]) -> bool
     ensures { λ r. ⌜ r ≡ specs.begins (now (word .entry)) (now (text .entry)) ⌝ }
 {
     if text.len() < word.len() {

@@ -51,7 +51,7 @@ fn tell(
     let a = script::least(room.ends, ends.len());
     let b = script::least(room.hops, hops.len());
     let c = script::least(room.wholes, wholes.len());
-    let t = survivors::survivors(
+    let t = survivors::three(
         mesh,
         source,
         targets,
@@ -59,6 +59,7 @@ fn tell(
         counts,
         stopped,
         cuts,
+        false,
         &mut ends[..a],
         &mut hops[..b],
         &mut wholes[..c],

@@ -24,8 +24,8 @@ use Rattle.answers.specs.declared.Checked.{Checked}
 use Rattle.answers.specs.declared.Checked.the-variants as checked
 use Rattle.paths.specs.Mesh.{width}
 use Rattle.paths.specs.Fan.{Fan}
-use Rattle.mesh.specs.Kinds.{kindOf, meshOf, known}
-use Rattle.mesh.specs.Limits.{mostLinks, known-links, known-width, planned-links, planned-places}
+use Rattle.mesh.specs.Kinds.{kindOf, meshOf, known, planned}
+use Rattle.mesh.specs.Limits.{mostLinks, mostPlaces, known-links, known-width, planned-links, planned-places}
 use Rattle.mesh.specs.Laws.{known-planned}
 use Rattle.mesh.specs.Says.{plannedAgainst, short}
 use Rattle.mesh.specs.Requests.{plan-fine, plan-asked, room-enough}
@@ -47,7 +47,7 @@ use Rattle.sheet_write.specs.Needs.{Sheeted}
 use Rattle.sheet_write.specs.Writing.{judged-sheeted}
 use Rattle.sheet.specs.declared.Written.{Written}
 use Rattle.region.specs.Says.{codeOf, coded, LONE, most, targetsIn, sheetCode, listCode, planCode, Answered, Planned}
-use Rattle.region.specs.Needs.{Roomy, Layable, few}
+use Rattle.region.specs.Needs.{Sound, Layable, few}
 
 some-inj : {x y : Refusal} → some x ≡ some y → x ≡ y
 some-inj e = cc
@@ -97,28 +97,42 @@ module _ (kind size k : ℕ) {w : ℕ} (e : w ≡ width (meshOf kind size)) wher
 -- ---- a fan planned in room enough, and written
 
 module _ (kind size s : ℕ) (targets : List ℕ) where
+  -- its places are no more than every fan takes, and its paths no more than a relay has links
+  module _ {out : ℕ} (p : Sound kind size s targets out) where
+    pub sound-known : known kind size ≡ true
+    sound-known = plan-fine (kindOf kind) size s targets (p .clear) .0 .known
+
+    abbrev h : planned kind size ≡ true
+    h = let (fine, v) = plan-fine (kindOf kind) size s targets (p .clear) in known-planned kind size (fine .known) v
+
+    pub sound-few : length targets ≤ mostLinks
+    sound-few = let fine = plan-fine (kindOf kind) size s targets (p .clear) .0 in omega (arith, fine .sound .few, planned-links kind size h)
+
+    pub sound-placed : length targets * width (meshOf kind size) ≤ mostPlaces
+    sound-placed =
+        let fine = plan-fine (kindOf kind) size s targets (p .clear) .0 in
+        omega (arith, mul-le-mul-right (width (meshOf kind size)) (fine .sound .few), planned-places kind size h)
+
+    -- w is what code has of the places of a path
+    pub alone : {w places counts : ℕ} → w ≡ width (meshOf kind size) → length targets * w ≤ places → mostLinks ≤ counts → Layable kind size s targets places counts out
+    alone {w} {places} {counts} e l c = record { sound = p; placed = subst (λ (x : ℕ). length targets * x ≤ places) e l; counted = omega (arith, sound-few) }
+
   wide : {places counts out : ℕ} → Layable kind size s targets places counts out → short (meshOf kind size) (length targets) places counts ≡ false
-  wide {places} {counts} {out} p =
-      let (fine, v) = plan-fine (kindOf kind) size s targets (p .clear) in
-      let h = known-planned kind size (fine .known) v in
-      let all = mul-le-mul-right (width (meshOf kind size)) (fine .sound .few) in
-      let placed : length targets * width (meshOf kind size) ≤ places = omega (arith, all, planned-places kind size h, p .roomy .placed) in
-      let counted : length targets ≤ counts = omega (arith, fine .sound .few, planned-links kind size h, p .roomy .counted) in
-      enough (meshOf kind size) (length targets) places counts placed counted
+  wide {places} {counts} p = enough (meshOf kind size) (length targets) places counts (p .placed) (p .counted)
 
   -- what laying a fan asks
   pub lay-able : {places counts out : ℕ} → Layable kind size s targets places counts out → planner.Layable kind size s targets places counts
-  lay-able p = record { clear = p .clear; room = wide p }
+  lay-able p = record { clear = p .sound .clear; room = wide p }
 
   module _ {places counts places₁ counts₁ : List ℕ} {out : ℕ} (p : Layable kind size s targets (length places) (length counts) out)
       (f : requests.Planned none (meshOf kind size) s targets places counts checked.Fine places₁ counts₁) where
     pub lay-judged : Judged (kindOf kind) size s targets places₁ counts₁
     lay-judged =
         let room = room-enough (meshOf kind size) (length targets) (length places) (length counts) (wide p) in
-        record { request = plan-asked (kindOf kind) size s targets (p .clear); room = omega (arith, room .0, f .as-long); counted = omega (arith, room .1, f .as-long-counts); fan = f .paths refl }
+        record { request = plan-asked (kindOf kind) size s targets (p .sound .clear); room = omega (arith, room .0, f .as-long); counted = omega (arith, room .1, f .as-long-counts); fan = f .paths refl }
 
     pub lay-sheeted : Sheeted kind size (length targets) (length places₁) counts₁
-    lay-sheeted = let (fine, v) = plan-fine (kindOf kind) size s targets (p .clear) in judged-sheeted kind size s targets places₁ counts₁ (known-planned kind size (fine .known) v) lay-judged
+    lay-sheeted = judged-sheeted kind size s targets places₁ counts₁ (h (p .sound)) lay-judged
 
   pub lay-answered : {places counts places₁ counts₁ out out₁ : List ℕ} {w : Written} → Layable kind size s targets (length places) (length counts) (length out)
       → requests.Planned none (meshOf kind size) s targets places counts checked.Fine places₁ counts₁
@@ -126,7 +140,7 @@ module _ (kind size s : ℕ) (targets : List ℕ) where
   lay-answered {places} {counts} {places₁} {counts₁} {out} {out₁} p f q =
       let sheet = bytes kind size s (length targets) places₁ counts₁ in
       let j = lay-judged p f in
-      let fits : length sheet ≤ length out = omega (arith, fan-sheet-most (meshOf kind size) s targets places₁ counts₁ (j .fan) VERSION kind size [], p .long) in
+      let fits : length sheet ≤ length out = omega (arith, fan-sheet-most (meshOf kind size) s targets places₁ counts₁ (j .fan) VERSION kind size [], p .sound .long) in
       record {
         places = places₁;
         counts = counts₁;
@@ -174,8 +188,8 @@ module _ (kind size s : ℕ) (targets out : List ℕ) {c : Checked} (e : against
         pub list-short : {r : ℕ} → length out < m → r ≡ codeOf (some NoRoom) → Planned (listCode kind size s targets out) kind size s targets out r out
         list-short h p = let o = roomed true (lt-ltb (length out) m h) in refusal kind size s targets out (λ z. code-some NoRoom (o ∙ z)) (p ∙ o)
 
-        pub list-layable : {places counts : ℕ} → m ≤ length out → Roomy places counts → Layable kind size s targets places counts (length out)
-        list-layable h room = record { clear = sym e ∙ ap against f; roomy = room; long = omega (arith, q) }
+        pub list-sound : m ≤ length out → Sound kind size s targets (length out)
+        list-sound h = record { clear = sym e ∙ ap against f; long = omega (arith, q) }
 
         pub list-done : {out₁ : List ℕ} → m ≤ length out → Answered kind size s targets out out₁ → Planned (listCode kind size s targets out) kind size s targets out 0 out₁
         list-done h a = let o = roomed false (le-ltb (length out) m h) in record { told = o; answered = λ z. a; refused = λ ne. absurd (ne (sym o)) }

@@ -3,7 +3,7 @@
 use Prim.Native.Nat.{ℕ, _%_}
 use mathlib.Core.Path.{_≡_, refl, ap, _∙_}
 use mathlib.Core.Bool.{Bool, true, false, not}
-use mathlib.Core.List.{List}
+use mathlib.Core.List.{List, []}
 use mathlib.Core.Option.{Option, none, some}
 use native.Mathlib.Omega.{arith}
 use lib.Dec.{eqb}
@@ -17,6 +17,7 @@ use Rattle.mesh.specs.Kinds.{kindOf, planned}
 use Rattle.mesh.specs.Says.{requestAgainst, plannedAgainst}
 use Rattle.mesh.specs.Requests.{plan-fine, plan-asked}
 use Rattle.mesh.specs.Laws.{known-planned}
+use Rattle.sheet.specs.Format.{VERSION}
 use Rattle.sheet.specs.Judging.{judged-told}
 use Rattle.sheet.specs.Says.{lone}
 use Rattle.sheet_write.specs.Says.{bytes}
@@ -58,10 +59,10 @@ module _ (kind size s : ℕ) (l out out₁ : List ℕ) {r : ℕ} (p : Planned (p
   several = not-lone (lone kind (length (targetsIn l))) _ (parts .1)
 
   -- the first bytes are the sheet, and it reads back
-  pub plan-reads : (take (length planned-sheet) out₁ ≡ planned-sheet) × ReadsBack kind size s (targetsIn l) (planned-fan .places) (planned-fan .counts) planned-sheet
+  pub plan-reads : (take (length planned-sheet) out₁ ≡ planned-sheet) × ReadsBack VERSION [] kind size s (targetsIn l) (planned-fan .places) (planned-fan .counts) planned-sheet
   plan-reads = (
     ap (take (length planned-sheet)) (planned-fan .held) ∙ take-at planned-sheet (drop (length planned-sheet) out) (length planned-sheet) refl,
-    write-read kind size s (targetsIn l) (planned-fan .places) (planned-fan .counts) asked-planned
+    write-read VERSION [] (λ i. omega arith) kind size s (targetsIn l) (planned-fan .places) (planned-fan .counts) asked-planned
         (judged-told (kindOf kind) size s (targetsIn l) (planned-fan .places) (planned-fan .counts)
         (record { request = asked-fine; room = planned-fan .placed; counted = planned-fan .counted; fan = planned-fan .fan })) several,
   )

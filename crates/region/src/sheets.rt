@@ -5,7 +5,7 @@ ghost use Prim.Native.Nat.{_≤_};
 ghost use lib.ListN.{length};
 ghost use Rattle.mesh.specs.Kinds.{known, meshOf};
 ghost use Rattle.region.specs.Says.{most, Answered, Planned, listCode, planCode, targetsIn};
-ghost use Rattle.region.specs.Needs.{Layable, Roomy, Whole, few, Lent};
+ghost use Rattle.region.specs.Needs.{Layable, Sound, Whole, few, Lent};
 use crate::code;
 use answers::Checked;
 use answers::Refusal;
@@ -37,16 +37,30 @@ fn lay(
     sheet_write::put_sheet(mesh, source, targets.len(), places, counts, out);
 }
 
+// The same in room of its own, which is cleared first: where the paths take few places it is small, so that clearing it takes little beside planning them. All that order 3
+// can ask for is 172 places, order 4 465, order 5 1,242; a cube 1,088.
+fn lay_alone(mesh: Mesh, source: u64, targets: &[u64], out: &mut [u8])
+    requires { ⌜ Sound (mesh .kind) (mesh .size) source (now targets) (length (now out)) ⌝ }
+    ensures { λ _. ⌜ Answered (mesh .kind) (mesh .size) source (now (targets .entry)) (now (out .entry)) (now (out .exit)) ⌝ }
+{
+    let taken = targets.len() * (mesh::places_in(mesh) as usize);
+    let mut counts = [0u64; mesh::MOST_LINKS];
+    if taken <= 172 {
+        let mut few = [0u64; 172];
+        lay(mesh, source, targets, &mut few, &mut counts, out);
+        return;
+    }
+    if taken <= 465 {
+        let mut some = [0u64; 465];
+        lay(mesh, source, targets, &mut some, &mut counts, out);
+        return;
+    }
+    let mut most = [0u64; mesh::MOST_PLACES];
+    lay(mesh, source, targets, &mut most, &mut counts, out);
+}
+
 // The same, where nothing stands against it.
-fn plan_list(
-    mesh: Mesh,
-    source: u64,
-    targets: &[u64],
-    places: &mut [u64],
-    counts: &mut [u64],
-    out: &mut [u8],
-) -> u64
-    requires { ⌜ Roomy (length (now places)) (length (now counts)) ⌝ }
+fn plan_list(mesh: Mesh, source: u64, targets: &[u64], out: &mut [u8]) -> u64
     ensures { λ r. ⌜ Planned (listCode (mesh .kind) (mesh .size) source (now (targets .entry)) (now (out .entry))) (mesh .kind) (mesh .size) source (now (targets .entry)) (now (out .entry)) r (now (out .exit)) ⌝ }
 {
     let checked = mesh::plan_request(mesh, source, targets);
@@ -59,7 +73,7 @@ fn plan_list(
     if out.len() < most_bytes(mesh, targets.len()) {
         return code(Refusal::NoRoom);
     }
-    lay(mesh, source, targets, places, counts, out);
+    lay_alone(mesh, source, targets, out);
     0
 }
 
@@ -74,38 +88,20 @@ fn looked_at(n: usize) -> usize
 }
 
 // Takes the targets out of their bytes into the list, and plans.
-fn plan_in(
-    mesh: Mesh,
-    source: u64,
-    bytes: &[u8],
-    list: &mut [u64],
-    places: &mut [u64],
-    counts: &mut [u64],
-    out: &mut [u8],
-) -> u64
-    requires { ⌜ Lent (now bytes) (length (now list)) (length (now places)) (length (now counts)) ⌝ }
+fn plan_in(mesh: Mesh, source: u64, bytes: &[u8], list: &mut [u64], out: &mut [u8]) -> u64
+    requires { ⌜ Lent (now bytes) (length (now list)) ⌝ }
     ensures { λ r. ⌜ Planned (planCode (mesh .kind) (mesh .size) source (now (bytes .entry)) (now (out .entry))) (mesh .kind) (mesh .size) source (targetsIn (now (bytes .entry))) (now (out .entry)) r (now (out .exit)) ⌝ }
 {
     let k = looked_at(bytes.len() / 8);
     sheet_take::take_relays(bytes, 0, k, 0, list);
-    plan_list(mesh, source, &list[..k], places, counts, out)
+    plan_list(mesh, source, &list[..k], out)
 }
 
-// The same in room of its own: 32 paths of a cube take 1,088 places, and 6 of a two-level mesh 1,242.
+// The same with a list of its own.
 pub fn plan_bytes(mesh: Mesh, source: u64, bytes: &[u8], out: &mut [u8]) -> u64
     requires { ⌜ Whole (now bytes) ⌝ }
     ensures { λ r. ⌜ Planned (planCode (mesh .kind) (mesh .size) source (now (bytes .entry)) (now (out .entry))) (mesh .kind) (mesh .size) source (targetsIn (now (bytes .entry))) (now (out .entry)) r (now (out .exit)) ⌝ }
 {
     let mut list = [0u64; 33];
-    let mut places = [0u64; mesh::MOST_PLACES];
-    let mut counts = [0u64; mesh::MOST_LINKS];
-    plan_in(
-        mesh,
-        source,
-        bytes,
-        &mut list,
-        &mut places,
-        &mut counts,
-        out,
-    )
+    plan_in(mesh, source, bytes, &mut list, out)
 }

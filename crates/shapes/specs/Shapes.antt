@@ -10,7 +10,7 @@ use Rattle.mesh.specs.Kinds.{Kind}
 use Rattle.mesh.specs.Says.{factTold}
 use Rattle.judge.specs.Says.{Ruling, numberOf, pathOf, placeOf}
 use Rattle.survivors.specs.Tally.{Tallied, rulingOf, wholeOf}
-use Rattle.sheet.specs.Says.{WriteTold, writtenNumber, writtenBytes, ReadTold, readNumber, readPath, readPlace, readKind, readSize, readSource, readCount}
+use Rattle.sheet.specs.Says.{WriteTold, writtenNumber, writtenPath, writtenPlace, writtenBytes, ReadTold, readNumber, readPath, readPlace, readKind, readSize, readSource, readCount}
 use Rattle.arrivals.specs.Says as frames
 use Rattle.arrivals.specs.declared.Record.{Record}
 use Rattle.arrivals.specs.declared.Arrival.{Arrival}
@@ -18,6 +18,7 @@ use Rattle.shapes.specs.declared.GustAnswer.{GustAnswer}
 use Rattle.shapes.specs.declared.GustFacts.{GustFacts}
 use Rattle.shapes.specs.declared.GustVerdict.{GustVerdict}
 use Rattle.shapes.specs.declared.GustReading.{GustReading}
+use Rattle.shapes.specs.declared.GustZonedReading.{GustZonedReading}
 use Rattle.shapes.specs.declared.GustArrival.{GustArrival}
 
 -- ---- the structs
@@ -48,7 +49,7 @@ abbrev pub tallyIn : Tallied → GustAnswer
 tallyIn t = record { number = numberOf (rulingOf t); path = pathOf (rulingOf t); place = placeOf (rulingOf t); value = wholeOf t }
 
 abbrev pub writtenIn : WriteTold → GustAnswer
-writtenIn t = record { number = writtenNumber t; path = 0; place = 0; value = writtenBytes t }
+writtenIn t = record { number = writtenNumber t; path = writtenPath t; place = writtenPlace t; value = writtenBytes t }
 
 abbrev pub readingIn : ReadTold → GustReading
 readingIn t = record {
@@ -60,6 +61,22 @@ readingIn t = record {
   source = readSource t;
   paths = readCount t;
 }
+
+-- with the version
+abbrev pub withVersion : ℕ → GustReading → GustZonedReading
+withVersion v g = record {
+  number = g .number;
+  path = g .path;
+  place = g .place;
+  kind = g .kind;
+  size = g .size;
+  source = g .source;
+  paths = g .paths;
+  version = v;
+}
+
+abbrev pub versionedIn : ℕ → ReadTold → GustZonedReading
+versionedIn v t = withVersion v (readingIn t)
 
 abbrev pub arrivalIn : Arrival → GustArrival
 arrivalIn a = record { number = frames.numberOf a; newest = frames.recordOf a .newest; marks = frames.recordOf a .marks }

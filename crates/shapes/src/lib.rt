@@ -14,6 +14,7 @@ use arrivals::Arrival;
 use judge::Verdict;
 use mesh::Mesh;
 use sheet::Reading;
+use sheet::Versioned;
 use sheet::Written;
 use survivors::Tally;
 
@@ -56,6 +57,19 @@ pub struct GustReading {
     pub size: u64,
     pub source: u64,
     pub paths: u64,
+}
+
+// The same of a sheet of either version, and its version.
+#[repr(C)]
+pub struct GustZonedReading {
+    pub number: u64,
+    pub path: u64,
+    pub place: u64,
+    pub kind: u64,
+    pub size: u64,
+    pub source: u64,
+    pub paths: u64,
+    pub version: u64,
 }
 
 // What becomes of a number that arrives, and the record to keep: 16 bytes, so that they come back in registers.
@@ -156,8 +170,8 @@ pub fn of_written(w: Written) -> GustAnswer
 {
     GustAnswer {
         number: w.number(),
-        path: 0,
-        place: 0,
+        path: w.path() as u64,
+        place: w.place() as u64,
         value: w.bytes() as u64,
     }
 }
@@ -174,6 +188,23 @@ pub fn of_reading(read: Reading) -> GustReading
         size: mesh.size,
         source: read.source(),
         paths: read.paths() as u64,
+    }
+}
+
+pub fn of_versioned(read: Versioned) -> GustZonedReading
+    ensures { λ r. ⌜ r ≡ specs.versionedIn (read .version) (readingTold (read .reading)) ⌝ }
+{
+    let reading = read.reading;
+    let told = of_reading(reading);
+    GustZonedReading {
+        number: told.number,
+        path: told.path,
+        place: told.place,
+        kind: told.kind,
+        size: told.size,
+        source: told.source,
+        paths: told.paths,
+        version: read.version,
     }
 }
 

@@ -27,7 +27,8 @@ flawAt n i p =
     (pick (eqb n 5) (flaw.TargetOut p)
     (pick (eqb n 6) (flaw.TargetIsSource p)
     (pick (eqb n 7) (flaw.TargetAgain p)
-    (pick (eqb n 22) (flaw.NotLinked i p) (flaw.SeenAgain i p))))))))))))))
+    (pick (eqb n 22) (flaw.NotLinked i p)
+    (pick (eqb n 24) (flaw.SeenAgain i p) (flaw.Zone i)))))))))))))))
 
 pub flaw-back : (f : Flaw) → flawAt (flawNumber f) (flawPath f) (flawPlace f) ≡ f
 unfolding flawAt
@@ -46,6 +47,7 @@ flaw-back (flaw.TargetIsSource p) = refl
 flaw-back (flaw.TargetAgain p) = refl
 flaw-back (flaw.NotLinked i p) = refl
 flaw-back (flaw.SeenAgain i p) = refl
+flaw-back (flaw.Zone i) = refl
 
 pub flaw-some : (f : Flaw) → eqb (flawNumber f) 0 ≡ false
 flaw-some flaw.Cut = refl
@@ -63,6 +65,7 @@ flaw-some (flaw.TargetIsSource p) = refl
 flaw-some (flaw.TargetAgain p) = refl
 flaw-some (flaw.NotLinked i p) = refl
 flaw-some (flaw.SeenAgain i p) = refl
+flaw-some (flaw.Zone i) = refl
 
 -- flaws that tell the same are the same
 pub flaw-same : (f g : Flaw) → flawNumber f ≡ flawNumber g → flawPath f ≡ flawPath g → flawPlace f ≡ flawPlace g → f ≡ g

@@ -1,5 +1,5 @@
 -- A sheet: a fan as bytes (`sheetOf`), and the fan of bytes (`pathsAt`, `zonesAt`), over the version v. A path is the list of the relays after its source. Numbers
--- stand with their highest byte first. Version 1 is written and read; of version 2 the format stands here, and its laws.
+-- stand with their highest byte first. Versions 1 and 2 are written and read.
 --
 --     length    4 bytes, of all that follows it
 --     version   1 byte
@@ -18,13 +18,17 @@ use Rattle.paths.specs.Read.{read}
 
 -- ---- the bytes of a fan
 
--- the version that is written and read
+-- the version of sheets without zones
 abbrev pub VERSION : ℕ
 VERSION = 1
 
+-- and the one with
+abbrev pub ZONED : ℕ
+ZONED = 2
+
 -- whether paths have a zone in a version
 abbrev pub zoned : ℕ → Bool
-zoned v = eqb v 2
+zoned v = eqb v ZONED
 
 -- the bytes of a path before its relays
 abbrev pub head : ℕ → ℕ
@@ -68,6 +72,10 @@ lengthAt l = number l 0 4
 
 abbrev pub versionAt : List ℕ → ℕ
 versionAt l = getD l 4 0
+
+-- the version to read a sheet in that may have either: 1 unless it says 2
+abbrev pub versionOf : List ℕ → ℕ
+versionOf l = pick (zoned (versionAt l)) ZONED VERSION
 
 abbrev pub kindAt : List ℕ → ℕ
 kindAt l = getD l 5 0

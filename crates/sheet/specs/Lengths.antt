@@ -6,10 +6,11 @@ use mathlib.Core.Bool.{Bool, true, false}
 use mathlib.Core.List.{List, [], _∷_, _++_}
 use native.Mathlib.Omega.{arith}
 use lib.ListN.{length, getD, drop, length-append, replicate, length-replicate}
+use borrow.Author.Tests.{eq-eqb}
 use Rattle.scan.specs.Scan.{pick}
 use Rattle.octets.specs.Big.{big, big-length}
 use Rattle.paths.specs.Fan.{filler}
-use Rattle.sheet.specs.Format.{fields, zoned, head, zoneBytes, relaysBytes, pathBytes, pathsBytes, bodyOf, sheetOf, pathsFrom, HEAD, relaysAt, after, pathsAt, row, countsOf, targetsOf}
+use Rattle.sheet.specs.Format.{ZONED, fields, zoned, head, zoneBytes, relaysBytes, pathBytes, pathsBytes, bodyOf, sheetOf, pathsFrom, HEAD, relaysAt, after, pathsAt, zonesAt, row, countsOf, targetsOf}
 
 pub relays-length : (l : List ℕ) → length (relaysBytes l) ≡ length l * 8
 unfolding relaysBytes
@@ -23,6 +24,17 @@ zone-length v zone = go (zoned v)
     go : (b : Bool) → 2 + length (pick b (big 4 zone) []) ≡ pick b 6 2
     go true = omega (arith, big-length 4 zone)
     go false = refl
+
+pub head-bounds : (v : ℕ) → (2 ≤ head v) × (head v ≤ 6)
+head-bounds v = go (zoned v)
+  where
+    go : (b : Bool) → (2 ≤ pick b 6 2) × (pick b 6 2 ≤ 6)
+    go true = (omega arith, omega arith)
+    go false = (omega arith, omega arith)
+
+-- with a zone it has six
+pub head-zoned : {v : ℕ} → v ≡ ZONED → head v ≡ 6
+head-zoned {v} e = ap (λ (b : Bool). pick {A = ℕ} b 6 2) (eq-eqb v ZONED e)
 
 pub path-length : (v zone : ℕ) (p : List ℕ) → length (pathBytes v zone p) ≡ head v + length p * 8
 unfolding pathBytes
@@ -67,6 +79,11 @@ pub paths-length : (v : ℕ) (l : List ℕ) (at k : ℕ) → length (pathsAt v l
 unfolding pathsAt
 paths-length v l at zero = refl
 paths-length v l at (suc k) = ap suc (paths-length v l (after v l at) k)
+
+pub zones-length : (v : ℕ) (l : List ℕ) (at k : ℕ) → length (zonesAt v l at k) ≡ k
+unfolding zonesAt
+zones-length v l at zero = refl
+zones-length v l at (suc k) = ap suc (zones-length v l (after v l at) k)
 
 pub pathsFrom-length : (w : ℕ) (places counts : List ℕ) (i n : ℕ) → length (pathsFrom w places counts i n) ≡ n
 unfolding pathsFrom

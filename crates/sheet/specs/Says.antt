@@ -13,6 +13,7 @@ use Rattle.sheet.specs.declared.Written.{Written}
 use Rattle.sheet.specs.declared.Written.the-variants as written
 use Rattle.sheet.specs.declared.Reading.{Reading}
 use Rattle.sheet.specs.declared.Reading.the-variants as reading
+use Rattle.sheet.specs.declared.Versioned.{Versioned}
 
 abbrev pub flawNumber : Flaw → ℕ
 flawNumber flaw.Cut = 30
@@ -30,6 +31,7 @@ flawNumber (flaw.TargetIsSource p) = 6
 flawNumber (flaw.TargetAgain p) = 7
 flawNumber (flaw.NotLinked i p) = 22
 flawNumber (flaw.SeenAgain i p) = 24
+flawNumber (flaw.Zone i) = 38
 
 abbrev pub flawPath : Flaw → ℕ
 flawPath flaw.Cut = 0
@@ -47,6 +49,7 @@ flawPath (flaw.TargetIsSource p) = 0
 flawPath (flaw.TargetAgain p) = 0
 flawPath (flaw.NotLinked i p) = i
 flawPath (flaw.SeenAgain i p) = i
+flawPath (flaw.Zone i) = i
 
 abbrev pub flawPlace : Flaw → ℕ
 flawPlace flaw.Cut = 0
@@ -64,6 +67,7 @@ flawPlace (flaw.TargetIsSource p) = p
 flawPlace (flaw.TargetAgain p) = p
 flawPlace (flaw.NotLinked i p) = p
 flawPlace (flaw.SeenAgain i p) = p
+flawPlace (flaw.Zone i) = 0
 
 -- what stands against it, or what comes after
 abbrev pub flawed : Bool → Flaw → Option Flaw → Option Flaw
@@ -90,6 +94,12 @@ pub data WriteTold : Type 0 where
 
 abbrev pub writtenNumber : WriteTold → ℕ
 writtenNumber (wrote n i p bytes) = n
+
+abbrev pub writtenPath : WriteTold → ℕ
+writtenPath (wrote n i p bytes) = i
+
+abbrev pub writtenPlace : WriteTold → ℕ
+writtenPlace (wrote n i p bytes) = p
 
 abbrev pub writtenBytes : WriteTold → ℕ
 writtenBytes (wrote n i p bytes) = bytes
@@ -136,3 +146,8 @@ tellRead (some f) kind size s k = reads (flawNumber f) (flawPath f) (flawPlace f
 abbrev pub readingTold : Reading → ReadTold
 readingTold (reading.Fan m s k) = tellRead none (m .kind) (m .size) s k
 readingTold (reading.Refused f) = tellRead (some f) 0 0 0 0
+
+-- a reading with the version of the sheet, and with 0 of a refusal
+abbrev pub withVersion : ℕ → Reading → Versioned
+withVersion v (reading.Fan m s k) = record { version = v; reading = reading.Fan m s k }
+withVersion v (reading.Refused f) = record { version = 0; reading = reading.Refused f }

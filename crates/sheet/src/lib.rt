@@ -1,5 +1,6 @@
 // Sheets: a fan as bytes. docs/SHEETS.md has the format byte by byte; `sheet_write` writes them and `sheet_read` reads them.
 ghost use mathlib.Core.Path.{_≡_};
+ghost use Rattle.sheet.specs.Format.{head};
 ghost use Rattle.sheet.specs.Says as says;
 use mesh::Mesh;
 
@@ -7,7 +8,7 @@ use mesh::Mesh;
 pub enum Flaw {
     // 30: fewer than 16 bytes, a length field that is not that of the bytes after it, or a path that runs out of bytes.
     Cut,
-    // 31: the version is not 1.
+    // 31: the version is not one that is read or written.
     Version,
     // 32: no such kind or size.
     NoMesh,
@@ -35,6 +36,8 @@ pub enum Flaw {
     NotLinked(usize, usize),
     // 24: a relay that stands earlier on its path, or on an earlier one; path and place.
     SeenAgain(usize, usize),
+    // 38: a path with a zone that is not 0, where version 1 is to be written; its number, counted from 0.
+    Zone(usize),
 }
 
 // How many bytes the sheet takes, or why there is none.
@@ -47,6 +50,12 @@ pub enum Written {
 pub enum Reading {
     Fan(Mesh, u64, usize),
     Refused(Flaw),
+}
+
+// The version of a sheet, which is 0 of a refusal, and what is read of it.
+pub struct Versioned {
+    pub version: u64,
+    pub reading: Reading,
 }
 
 impl Flaw {
@@ -70,10 +79,11 @@ impl Flaw {
             Flaw::TargetAgain(_) => 7,
             Flaw::NotLinked(_, _) => 22,
             Flaw::SeenAgain(_, _) => 24,
+            Flaw::Zone(_) => 38,
         }
     }
 
-    // The path that 22, 24 and 34 tell, and 0 of all else: of `Flaw::NotLinked(1, 3)` it is 1.
+    // The path that 22, 24, 34 and 38 tell, and 0 of all else: of `Flaw::NotLinked(1, 3)` it is 1.
     pub fn path(self) -> usize
         ensures { λ r. ⌜ r ≡ says.flawPath self ⌝ }
     {
@@ -93,6 +103,7 @@ impl Flaw {
             Flaw::TargetAgain(_) => 0,
             Flaw::NotLinked(i, _) => i,
             Flaw::SeenAgain(i, _) => i,
+            Flaw::Zone(i) => i,
         }
     }
 
@@ -116,6 +127,7 @@ impl Flaw {
             Flaw::TargetAgain(p) => p,
             Flaw::NotLinked(_, p) => p,
             Flaw::SeenAgain(_, p) => p,
+            Flaw::Zone(_) => 0,
         }
     }
 }
@@ -128,6 +140,26 @@ impl Written {
         match self {
             Written::Bytes(_) => 0,
             Written::Refused(f) => f.number(),
+        }
+    }
+
+    // The path that 38 tells, and those that the reader's numbers do; 0 of all else.
+    pub fn path(self) -> usize
+        ensures { λ r. ⌜ r ≡ says.writtenPath (says.writtenTold self) ⌝ }
+    {
+        match self {
+            Written::Bytes(_) => 0,
+            Written::Refused(f) => f.path(),
+        }
+    }
+
+    // The place that the reader's numbers tell, where a sheet that is read is written again; 0 of all else.
+    pub fn place(self) -> usize
+        ensures { λ r. ⌜ r ≡ says.writtenPlace (says.writtenTold self) ⌝ }
+    {
+        match self {
+            Written::Bytes(_) => 0,
+            Written::Refused(f) => f.place(),
         }
     }
 
@@ -212,4 +244,30 @@ pub fn lone(kind: u64, k: usize) -> bool
         return k == 1;
     }
     false
+}
+
+// The bytes of a path before its relays: its hops, and in version 2 its zone.
+pub fn head_bytes(version: u64) -> usize
+    ensures { λ r. ⌜ r ≡ head version ⌝ }
+{
+    if version == 2 {
+        return 6;
+    }
+    2
+}
+
+// A reading with the version of the sheet that was read, and with 0 where it is refused.
+pub fn with_version(version: u64, reading: Reading) -> Versioned
+    ensures { λ r. ⌜ r ≡ says.withVersion version reading ⌝ }
+{
+    match reading {
+        Reading::Fan(mesh, source, k) => Versioned {
+            version: version,
+            reading: Reading::Fan(mesh, source, k),
+        },
+        Reading::Refused(f) => Versioned {
+            version: 0,
+            reading: Reading::Refused(f),
+        },
+    }
 }

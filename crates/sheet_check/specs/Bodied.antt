@@ -16,7 +16,7 @@ use Rattle.mesh.specs.Laws.{planned-known}
 use Rattle.mesh.specs.Limits.{known-width}
 use Rattle.mesh.specs.Requests.{neither-wanting}
 use Rattle.mesh.specs.declared.Mesh as code
-use Rattle.sheet.specs.Format.{VERSION, HEAD, lengthAt, versionAt, kindAt, sizeAt, countAt}
+use Rattle.sheet.specs.Format.{HEAD, lengthAt, versionAt, kindAt, sizeAt, countAt}
 use Rattle.sheet.specs.Says.{flawNumber, before, reads, readNumber, readKind, readSize, readSource, readCount, readingTold}
 use Rattle.sheet.specs.Flaws.{flaw-some, flawed-none}
 use Rattle.sheet.specs.declared.Flaw.{Flaw}
@@ -27,29 +27,29 @@ use Rattle.sheet_check.specs.Told.{told-flaw}
 use Rattle.sheet.specs.declared.Reading.{Reading}
 use Rattle.sheet.specs.declared.Reading.the-variants as reading
 
-module _ (l : List ℕ) where
+module _ (v : ℕ) (l : List ℕ) where
   -- the head is read
-  pub head-bodied : {m : code.Mesh} {s k : ℕ} {r : Reading} → r ≡ reading.Fan m s k → readingTold r ≡ sheetTold l (headAgainst l) → Bodied l (m .kind) (m .size) s k
-  head-bodied {m} {s} {k} e t = go (headAgainst l) refl (sym (ap readingTold e) ∙ t)
+  pub head-bodied : {m : code.Mesh} {s k : ℕ} {r : Reading} → r ≡ reading.Fan m s k → readingTold r ≡ sheetTold l (headAgainst v l) → Bodied v l (m .kind) (m .size) s k
+  head-bodied {m} {s} {k} e t = go (headAgainst v l) refl (sym (ap readingTold e) ∙ t)
     where
-      go : (o : Option Flaw) → headAgainst l ≡ o → reads 0 0 0 (m .kind) (m .size) s k ≡ sheetTold l o → Bodied l (m .kind) (m .size) s k
+      go : (o : Option Flaw) → headAgainst v l ≡ o → reads 0 0 0 (m .kind) (m .size) s k ≡ sheetTold l o → Bodied v l (m .kind) (m .size) s k
       go none h g = record { head = h; kind-is = ap readKind g; size-is = ap readSize g; source-is = ap readSource g; count-is = ap readCount g }
       go (some f) h g = absurd (eqb-false (flawNumber f) 0 (flaw-some f) (sym (ap readNumber g)))
 
   -- what is wrong with the head
-  pub head-flaw : {f : Flaw} {r : Reading} → r ≡ reading.Refused f → readingTold r ≡ sheetTold l (headAgainst l) → some f ≡ headAgainst l
-  head-flaw e t = told-flaw l (headAgainst l) (sym (ap readingTold e) ∙ t)
+  pub head-flaw : {f : Flaw} {r : Reading} → r ≡ reading.Refused f → readingTold r ≡ sheetTold l (headAgainst v l) → some f ≡ headAgainst v l
+  head-flaw e t = told-flaw l (headAgainst v l) (sym (ap readingTold e) ∙ t)
 
-  pub head-flawed : {f : Flaw} {r : Reading} → r ≡ reading.Refused f → readingTold r ≡ sheetTold l (headAgainst l) → readingTold (reading.Refused f) ≡ sheetTold l (checkAgainst l)
-  head-flawed e t = ap (λ (o : Option Flaw). sheetTold l (before o (pathsAgainst l))) (head-flaw e t)
+  pub head-flawed : {f : Flaw} {r : Reading} → r ≡ reading.Refused f → readingTold r ≡ sheetTold l (headAgainst v l) → readingTold (reading.Refused f) ≡ sheetTold l (checkAgainst v l)
+  head-flawed e t = ap (λ (o : Option Flaw). sheetTold l (before o (pathsAgainst v l))) (head-flaw e t)
 
 -- ---- what a head with nothing wrong says
 
-module _ {l : List ℕ} {kind size s k : ℕ} (b : Bodied l kind size s k) where
+module _ {v : ℕ} {l : List ℕ} {kind size s k : ℕ} (b : Bodied v l kind size s k) where
   faultless : (cut l ≡ false) × (planned (kindAt l) (sizeAt l) ≡ true) × (badCount (meshAt l .links) (countAt l) ≡ false)
   faultless =
       let p = flawed-none (cut l) flaw.Cut _ (b .head) in
-      let q = flawed-none (not (eqb (versionAt l) VERSION)) flaw.Version _ (p .1) in
+      let q = flawed-none (not (eqb (versionAt l) v)) flaw.Version _ (p .1) in
       let r = flawed-none (not (planned (kindAt l) (sizeAt l))) flaw.NoMesh _ (q .1) in
       let t = flawed-none (badCount (meshAt l .links) (countAt l)) flaw.Paths _ (r .1) in
       (p .0, not-false (planned (kindAt l) (sizeAt l)) (r .0), t .0)
@@ -84,5 +84,5 @@ module _ {l : List ℕ} {kind size s k : ℕ} (b : Bodied l kind size s k) where
     body-small = omega (arith, e, known-width kind size body-known)
 
   -- what is told of the paths is told of the sheet
-  pub body-checked : (r : Reading) → readingTold r ≡ sheetTold l (pathsAgainst l) → readingTold r ≡ sheetTold l (checkAgainst l)
-  body-checked r t = t ∙ ap (λ (o : Option Flaw). sheetTold l (before o (pathsAgainst l))) (sym (b .head))
+  pub body-checked : (r : Reading) → readingTold r ≡ sheetTold l (pathsAgainst v l) → readingTold r ≡ sheetTold l (checkAgainst v l)
+  body-checked r t = t ∙ ap (λ (o : Option Flaw). sheetTold l (before o (pathsAgainst v l))) (sym (b .head))

@@ -16,7 +16,7 @@ use Rattle.mesh.specs.Kinds.{meshOf}
 use Rattle.mesh.specs.Limits.{mostLinks, mostPlaces, planned-links, known-width, planned-places}
 use Rattle.mesh.specs.declared.Mesh as code
 use Rattle.judge.specs.Says.{Ruling, ruling, numberOf, pathOf, placeOf}
-use Rattle.sheet.specs.Format.{VERSION, HEAD, kindAt, sizeAt, countAt, pathsAt}
+use Rattle.sheet.specs.Format.{HEAD, kindAt, sizeAt, countAt, pathsAt}
 use Rattle.sheet.specs.Says.{before, reads, readingTold}
 use Rattle.sheet.specs.declared.Flaw.{Flaw}
 use Rattle.sheet_take.specs.Says.{looked}
@@ -26,21 +26,21 @@ use Rattle.sheet_check.specs.Bodied.{mesh-is, body-planned, body-known, 
 use Rattle.sheet.specs.declared.Reading.the-variants as reading
 
 -- number, path and place are all that a ruling has
-ruling-back : (n i p : ℕ) (v : Ruling) → n ≡ numberOf v → i ≡ pathOf v → p ≡ placeOf v → ruling n i p ≡ v
+ruling-back : (n i p : ℕ) (r : Ruling) → n ≡ numberOf r → i ≡ pathOf r → p ≡ placeOf r → ruling n i p ≡ r
 ruling-back n i p (ruling x y z) a b c = ap₂ (λ (x y : ℕ). ruling x y p) a b ∙ ap (ruling x y) c
 
-module _ {l : List ℕ} {kind size s k : ℕ} (b : Bodied l kind size s k) {longest : ℕ} (e : longest ≡ meshOf kind size .longest) where
-  pub looked-is : looked VERSION longest l HEAD 0 k ≡ looked VERSION (meshAt l .longest) l HEAD 0 (countAt l)
-  looked-is = ap₂ (λ (x n : ℕ). looked VERSION x l HEAD 0 n) (e ∙ ap (λ (m : Mesh). m .longest) (mesh-is b)) (b .count-is)
+module _ {v : ℕ} {l : List ℕ} {kind size s k : ℕ} (b : Bodied v l kind size s k) {longest : ℕ} (e : longest ≡ meshOf kind size .longest) where
+  pub looked-is : looked v longest l HEAD 0 k ≡ looked v (meshAt l .longest) l HEAD 0 (countAt l)
+  looked-is = ap₂ (λ (x n : ℕ). looked v x l HEAD 0 n) (e ∙ ap (λ (m : Mesh). m .longest) (mesh-is b)) (b .count-is)
 
-  paths-is : {o x : Option Flaw} → o ≡ looked VERSION longest l HEAD 0 k → x ≡ ruled (sheetRuling l) → before o x ≡ pathsAgainst l
+  paths-is : {o x : Option Flaw} → o ≡ looked v longest l HEAD 0 k → x ≡ ruled (sheetRuling v l) → before o x ≡ pathsAgainst v l
   paths-is p q = ap₂ before (p ∙ looked-is) q
 
-  pub paths-flawed : {g : Flaw} → some g ≡ looked VERSION longest l HEAD 0 k → readingTold (reading.Refused g) ≡ sheetTold l (pathsAgainst l)
-  paths-flawed h = ap (sheetTold l) (paths-is {x = ruled (sheetRuling l)} h refl)
+  pub paths-flawed : {g : Flaw} → some g ≡ looked v longest l HEAD 0 k → readingTold (reading.Refused g) ≡ sheetTold l (pathsAgainst v l)
+  paths-flawed h = ap (sheetTold l) (paths-is {x = ruled (sheetRuling v l)} h refl)
 
-  module _ (h : none ≡ looked VERSION longest l HEAD 0 k) where
-    pub paths-judgeable : Judgeable l kind size longest k mostPlaces mostLinks mostLinks
+  module _ (h : none ≡ looked v longest l HEAD 0 k) where
+    pub paths-judgeable : Judgeable v l kind size longest k mostPlaces mostLinks mostLinks
     paths-judgeable =
         let all = mul-le-mul-right (longest + 1) (body-few b) in
         record {
@@ -55,24 +55,24 @@ module _ {l : List ℕ} {kind size s k : ℕ} (b : Bodied l kind size s k) {long
         }
 
     -- the verdict, and its number as code has it
-    module _ {v : Ruling} {n : ℕ} (g : v ≡ rulingOf kind size s (pathsAt VERSION l HEAD k)) (is : n ≡ numberOf v) where
-      ruling-is : v ≡ sheetRuling l
+    module _ {r : Ruling} {n : ℕ} (g : r ≡ rulingOf kind size s (pathsAt v l HEAD k)) (is : n ≡ numberOf r) where
+      ruling-is : r ≡ sheetRuling v l
       ruling-is =
-          g ∙ ap₂ (λ (x y : ℕ). rulingOf x y s (pathsAt VERSION l HEAD k)) (b .kind-is) (b .size-is)
-          ∙ ap₂ (λ (x y : ℕ). rulingOf (kindAt l) (sizeAt l) x (pathsAt VERSION l HEAD y)) (b .source-is) (b .count-is)
+          g ∙ ap₂ (λ (x y : ℕ). rulingOf x y s (pathsAt v l HEAD k)) (b .kind-is) (b .size-is)
+          ∙ ap₂ (λ (x y : ℕ). rulingOf (kindAt l) (sizeAt l) x (pathsAt v l HEAD y)) (b .source-is) (b .count-is)
 
       -- what the verdict is told as
-      ruled-is : (y : Bool) → eqb n 0 ≡ y → pick y none (some (flawIn v)) ≡ ruled (sheetRuling l)
-      ruled-is y f = ap (λ (x : Bool). pick x none (some (flawIn v))) (sym f ∙ ap (λ (x : ℕ). eqb x 0) is) ∙ ap ruled ruling-is
+      ruled-is : (y : Bool) → eqb n 0 ≡ y → pick y none (some (flawIn r)) ≡ ruled (sheetRuling v l)
+      ruled-is y f = ap (λ (x : Bool). pick x none (some (flawIn r))) (sym f ∙ ap (λ (x : ℕ). eqb x 0) is) ∙ ap ruled ruling-is
 
-      pub paths-fan : {m : code.Mesh} → m .kind ≡ kind → m .size ≡ size → n ≡ 0 → readingTold (reading.Fan m s k) ≡ sheetTold l (pathsAgainst l)
+      pub paths-fan : {m : code.Mesh} → m .kind ≡ kind → m .size ≡ size → n ≡ 0 → readingTold (reading.Fan m s k) ≡ sheetTold l (pathsAgainst v l)
       paths-fan {m} mk ms z =
           ap₂ (λ (x y : ℕ). reads 0 0 0 x y s k) (mk ∙ b .kind-is) (ms ∙ b .size-is) ∙ ap₂ (reads 0 0 0 (kindAt l) (sizeAt l)) (b .source-is) (b .count-is)
           ∙ ap (sheetTold l) (paths-is h (ruled-is true (eq-eqb n 0 z)))
 
       -- path and place as code has them too
-      pub paths-not : {i p : ℕ} {f : Flaw} → n ≢ 0 → i ≡ pathOf v → p ≡ placeOf v → f ≡ flawIn (ruling n i p)
-          → readingTold (reading.Refused f) ≡ sheetTold l (pathsAgainst l)
+      pub paths-not : {i p : ℕ} {f : Flaw} → n ≢ 0 → i ≡ pathOf r → p ≡ placeOf r → f ≡ flawIn (ruling n i p)
+          → readingTold (reading.Refused f) ≡ sheetTold l (pathsAgainst v l)
       paths-not {i} {p} ne j q e =
-          ap (λ (x : Flaw). readingTold (reading.Refused x)) (e ∙ ap flawIn (ruling-back n i p v is j q))
+          ap (λ (x : Flaw). readingTold (reading.Refused x)) (e ∙ ap flawIn (ruling-back n i p r is j q))
           ∙ ap (sheetTold l) (paths-is h (ruled-is false (ne-eqb n 0 ne)))

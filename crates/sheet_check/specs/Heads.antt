@@ -10,7 +10,7 @@ use lib.ListN.{length}
 use borrow.Author.Tests.{lt-ltb, le-ltb, eq-eqb, ne-eqb}
 use Rattle.scan.specs.Scan.{pick}
 use Rattle.mesh.specs.Kinds.{planned}
-use Rattle.sheet.specs.Format.{VERSION, HEAD, lengthAt, versionAt, kindAt, sizeAt, countAt}
+use Rattle.sheet.specs.Format.{HEAD, lengthAt, versionAt, kindAt, sizeAt, countAt}
 use Rattle.sheet.specs.Says.{flawed, lone}
 use Rattle.sheet.specs.declared.Flaw.the-variants as flaw
 use Rattle.sheet_check.specs.Says.{cut, badCount, countAgainst, meshAt, headAgainst}
@@ -40,9 +40,9 @@ module _ (kind links k : ℕ) where
 
 -- ---- the head
 
-module _ (l : List ℕ) where
-  head-is : {a b c : Bool} → cut l ≡ a → not (eqb (versionAt l) VERSION) ≡ b → not (planned (kindAt l) (sizeAt l)) ≡ c
-      → flawed a flaw.Cut (flawed b flaw.Version (flawed c flaw.NoMesh (countAgainst (kindAt l) (meshAt l .links) (countAt l)))) ≡ headAgainst l
+module _ (v : ℕ) (l : List ℕ) where
+  head-is : {a b c : Bool} → cut l ≡ a → not (eqb (versionAt l) v) ≡ b → not (planned (kindAt l) (sizeAt l)) ≡ c
+      → flawed a flaw.Cut (flawed b flaw.Version (flawed c flaw.NoMesh (countAgainst (kindAt l) (meshAt l .links) (countAt l)))) ≡ headAgainst v l
   head-is {a} {b} {c} p q r =
       ap (λ (x : Bool). flawed x flaw.Cut (flawed b flaw.Version (flawed c flaw.NoMesh (countAgainst (kindAt l) (meshAt l .links) (countAt l))))) (sym p)
       ∙ ap₂ (λ (x y : Bool). flawed (cut l) flaw.Cut (flawed x flaw.Version (flawed y flaw.NoMesh (countAgainst (kindAt l) (meshAt l .links) (countAt l))))) (sym q) (sym r)
@@ -50,7 +50,7 @@ module _ (l : List ℕ) where
   cut-is : (b : Bool) → ltb (length l) HEAD ≡ b → pick b true (not (eqb (lengthAt l) (length l - 4))) ≡ cut l
   cut-is b e = ap (λ (x : Bool). pick x true (not (eqb (lengthAt l) (length l - 4)))) (sym e)
 
-  pub head-few : length l < HEAD → some flaw.Cut ≡ headAgainst l
+  pub head-few : length l < HEAD → some flaw.Cut ≡ headAgainst v l
   head-few h = head-is (sym (cut-is true (lt-ltb (length l) HEAD h))) refl refl
 
   -- the length field, as code has it
@@ -58,19 +58,19 @@ module _ (l : List ℕ) where
     long-is : (b : Bool) → eqb (lengthAt l) (length l - 4) ≡ b → cut l ≡ not b
     long-is b t = sym (cut-is false (le-ltb (length l) HEAD h)) ∙ ap not t
 
-    pub head-long : told ≢ length l - 4 → some flaw.Cut ≡ headAgainst l
+    pub head-long : told ≢ length l - 4 → some flaw.Cut ≡ headAgainst v l
     head-long ne = head-is (long-is false (ne-eqb (lengthAt l) (length l - 4) (λ t. ne (e ∙ t)))) refl refl
 
     module _ (t : told ≡ length l - 4) where
       uncut : cut l ≡ false
       uncut = long-is true (eq-eqb (lengthAt l) (length l - 4) (sym e ∙ t))
 
-      pub head-version : versionAt l ≢ VERSION → some flaw.Version ≡ headAgainst l
-      head-version ne = head-is uncut (ap not (ne-eqb (versionAt l) VERSION ne)) refl
+      pub head-version : versionAt l ≢ v → some flaw.Version ≡ headAgainst v l
+      head-version ne = head-is uncut (ap not (ne-eqb (versionAt l) v ne)) refl
 
-      module _ (v : versionAt l ≡ VERSION) {r : Bool} (k : r ≡ planned (kindAt l) (sizeAt l)) where
-        pub head-unknown : r ≡ false → some flaw.NoMesh ≡ headAgainst l
-        head-unknown f = head-is uncut (ap not (eq-eqb (versionAt l) VERSION v)) (ap not (sym k ∙ f))
+      module _ (own : versionAt l ≡ v) {r : Bool} (k : r ≡ planned (kindAt l) (sizeAt l)) where
+        pub head-unknown : r ≡ false → some flaw.NoMesh ≡ headAgainst v l
+        head-unknown f = head-is uncut (ap not (eq-eqb (versionAt l) v own)) (ap not (sym k ∙ f))
 
-        pub head-known : r ≡ true → countAgainst (kindAt l) (meshAt l .links) (countAt l) ≡ headAgainst l
-        head-known f = head-is uncut (ap not (eq-eqb (versionAt l) VERSION v)) (ap not (sym k ∙ f))
+        pub head-known : r ≡ true → countAgainst (kindAt l) (meshAt l .links) (countAt l) ≡ headAgainst v l
+        head-known f = head-is uncut (ap not (eq-eqb (versionAt l) v own)) (ap not (sym k ∙ f))

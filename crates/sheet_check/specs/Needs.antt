@@ -10,14 +10,14 @@ use Rattle.sheet_take.specs.Needs.{Taken}
 use Rattle.sheet_check.specs.Says.{headAgainst}
 
 -- nothing is wrong with the head, and this is what it tells
-pub record Bodied (l : List ℕ) (kind size s k : ℕ) : Type 0 where
-  pub head : headAgainst l ≡ none
+pub record Bodied (v : ℕ) (l : List ℕ) (kind size s k : ℕ) : Type 0 where
+  pub head : headAgainst v l ≡ none
   pub kind-is : kind ≡ kindAt l
   pub size-is : size ≡ sizeAt l
   pub source-is : s ≡ sourceAt l
   pub count-is : k ≡ countAt l
 
 -- k paths of a mesh were looked through, and there is room for them
-pub record Judgeable (l : List ℕ) (kind size longest k places counts targets : ℕ) : Type 0 where
+pub record Judgeable (v : ℕ) (l : List ℕ) (kind size longest k places counts targets : ℕ) : Type 0 where
   pub wide : longest ≡ meshOf kind size .longest
-  pub taken : Taken l longest k places counts targets
+  pub taken : Taken v l longest k places counts targets

@@ -25,7 +25,7 @@ use Rattle.mesh.specs.Kinds.{kindOf, meshOf, known, planned}
 use Rattle.mesh.specs.Says.{short}
 use Rattle.judge.specs.Alike.{enough}
 use Rattle.judge.specs.Says.{Ruling, ruling, numberOf, rule, judgeAgainst}
-use Rattle.sheet.specs.Format.{HEAD, VERSION, versionAt, kindAt, sizeAt, countAt, sourceAt, hopsAt, after, placesOf, countsOf, targetsOf}
+use Rattle.sheet.specs.Format.{HEAD, versionAt, kindAt, sizeAt, countAt, sourceAt, hopsAt, after, placesOf, countsOf, targetsOf}
 use Rattle.sheet.specs.Laid.{pathAt, within-at, laid-hops, laid-end, laid-at}
 use Rattle.sheet.specs.Lengths.{paths-length, counts-length, targets-length}
 use Rattle.sheet.specs.Lent.{Within, places-length, last-at}
@@ -154,26 +154,26 @@ module _ (kind size s : ℕ) (ps : List (List ℕ)) (h : Held kind size ps) wher
 
 -- ---- sheets
 
-module _ (l : List ℕ) where
+module _ (v : ℕ) (l : List ℕ) where
   -- the paths after a head with nothing wrong, looked through
-  module _ (e : headAgainst l ≡ none) (g : looked VERSION (meshAt l .longest) l HEAD 0 (countAt l) ≡ none) where
-    sheet-held : Held (kindAt l) (sizeAt l) (sheetPaths l)
+  module _ (e : headAgainst v l ≡ none) (g : looked v (meshAt l .longest) l HEAD 0 (countAt l) ≡ none) where
+    sheet-held : Held (kindAt l) (sizeAt l) (sheetPaths v l)
     sheet-held =
-        let b : Bodied l (kindAt l) (sizeAt l) (sourceAt l) (countAt l) = record { head = e; kind-is = refl; size-is = refl; source-is = refl; count-is = refl } in
-        let many = paths-length VERSION l HEAD (countAt l) in
+        let b : Bodied v l (kindAt l) (sizeAt l) (sourceAt l) (countAt l) = record { head = e; kind-is = refl; size-is = refl; source-is = refl; count-is = refl } in
+        let many = paths-length v l HEAD (countAt l) in
         record {
           known-mesh = body-known b;
           some-path = λ z. body-some b (sym many ∙ z);
           few = omega (arith, many, body-few b);
-          within = looked-within VERSION (meshAt l .longest) l HEAD 0 (countAt l) g;
+          within = looked-within v (meshAt l .longest) l HEAD 0 (countAt l) g;
         }
 
     sheet-case : (P : Ruling → Type 0) → P (ruling 0 0 0) → P (ruling 2 0 0) → ((p : ℕ) → P (ruling 5 0 p)) → ((p : ℕ) → P (ruling 6 0 p)) → ((p : ℕ) → P (ruling 7 0 p))
-        → ((i p : ℕ) → P (ruling 22 i p)) → ((i p : ℕ) → P (ruling 24 i p)) → P (sheetRuling l)
-    sheet-case P = judged-case (kindAt l) (sizeAt l) (sourceAt l) (sheetPaths l) sheet-held P
+        → ((i p : ℕ) → P (ruling 22 i p)) → ((i p : ℕ) → P (ruling 24 i p)) → P (sheetRuling v l)
+    sheet-case P = judged-case (kindAt l) (sizeAt l) (sourceAt l) (sheetPaths v l) sheet-held P
 
     -- what is told as a flaw is what the judge says: number, path and place
-    pub flaw-told : numberOf (sheetRuling l) ≢ 0 → ruling (flawNumber (flawIn (sheetRuling l))) (flawPath (flawIn (sheetRuling l))) (flawPlace (flawIn (sheetRuling l))) ≡ sheetRuling l
+    pub flaw-told : numberOf (sheetRuling v l) ≢ 0 → ruling (flawNumber (flawIn (sheetRuling v l))) (flawPath (flawIn (sheetRuling v l))) (flawPlace (flawIn (sheetRuling v l))) ≡ sheetRuling v l
     flaw-told =
         sheet-case (λ (r : Ruling). numberOf r ≢ 0 → ruling (flawNumber (flawIn r)) (flawPath (flawIn r)) (flawPlace (flawIn r)) ≡ r)
         (λ ne. absurd (ne refl)) (λ ne. refl) (λ p ne. refl) (λ p ne. refl) (λ p ne. refl) (λ i p ne. refl) (λ i p ne. refl)
@@ -183,16 +183,16 @@ module _ (l : List ℕ) where
 abbrev pub checkNumbers : List ℕ
 checkNumbers = 0 ∷ 30 ∷ 31 ∷ 32 ∷ 33 ∷ 37 ∷ 34 ∷ 36 ∷ 2 ∷ 5 ∷ 6 ∷ 7 ∷ 22 ∷ 24 ∷ []
 
-module _ (l : List ℕ) where
-  -- one of them is told where so much stands against a sheet
-  abbrev pub Listed : Option Flaw → Type 0
-  Listed o = has checkNumbers (readNumber (sheetTold l o)) ≡ true
+-- one of them is told where so much stands against a sheet
+abbrev pub Listed : List ℕ → Option Flaw → Type 0
+Listed l o = has checkNumbers (readNumber (sheetTold l o)) ≡ true
 
-  pub listed-head : Listed (headAgainst l)
+module _ (v : ℕ) (l : List ℕ) where
+  pub listed-head : Listed l (headAgainst v l)
   unfolding has among any seek
-  listed-head = go (cut l) (not (eqb (versionAt l) VERSION)) (not (planned (kindAt l) (sizeAt l))) (badCount (meshAt l .links) (countAt l)) (lone (kindAt l) (countAt l))
+  listed-head = go (cut l) (not (eqb (versionAt l) v)) (not (planned (kindAt l) (sizeAt l))) (badCount (meshAt l .links) (countAt l)) (lone (kindAt l) (countAt l))
     where
-      go : (a b c d e : Bool) → Listed (flawed a flaw.Cut (flawed b flaw.Version (flawed c flaw.NoMesh (flawed d flaw.Paths (flawed e flaw.Lone none)))))
+      go : (a b c d e : Bool) → Listed l (flawed a flaw.Cut (flawed b flaw.Version (flawed c flaw.NoMesh (flawed d flaw.Paths (flawed e flaw.Lone none)))))
       go true b c d e = refl
       go false true c d e = refl
       go false false true d e = refl
@@ -200,30 +200,30 @@ module _ (l : List ℕ) where
       go false false false false true = refl
       go false false false false false = refl
 
-  listed-looked : (longest from i k : ℕ) → Listed (looked VERSION longest l from i k)
+  listed-looked : (longest from i k : ℕ) → Listed l (looked v longest l from i k)
   unfolding looked has among any seek
   listed-looked longest from i zero = go (not (eqb from (length l)))
     where
-      go : (a : Bool) → Listed (flawed a flaw.LeftOver none)
+      go : (a : Bool) → Listed l (flawed a flaw.LeftOver none)
       go true = refl
       go false = refl
-  listed-looked longest from i (suc k) = go (ltb (length l) (from + 2)) (badHops longest (hopsAt l from)) (ltb (length l) (after VERSION l from)) (looked VERSION longest l (after VERSION l from) (suc i) k) (listed-looked longest (after VERSION l from) (suc i) k)
+  listed-looked longest from i (suc k) = go (ltb (length l) (from + 2)) (badHops longest (hopsAt l from)) (ltb (length l) (after v l from)) (looked v longest l (after v l from) (suc i) k) (listed-looked longest (after v l from) (suc i) k)
     where
-      go : (a b c : Bool) (rest : Option Flaw) → Listed rest → Listed (flawed a flaw.Cut (flawed b (flaw.Hops i) (flawed c flaw.Cut rest)))
+      go : (a b c : Bool) (rest : Option Flaw) → Listed l rest → Listed l (flawed a flaw.Cut (flawed b (flaw.Hops i) (flawed c flaw.Cut rest)))
       go true b c rest r = refl
       go false true c rest r = refl
       go false false true rest r = refl
       go false false false rest r = r
 
-  listed-ruled : headAgainst l ≡ none → looked VERSION (meshAt l .longest) l HEAD 0 (countAt l) ≡ none → Listed (ruled (sheetRuling l))
+  listed-ruled : headAgainst v l ≡ none → looked v (meshAt l .longest) l HEAD 0 (countAt l) ≡ none → Listed l (ruled (sheetRuling v l))
   unfolding has among any seek
-  listed-ruled e g = sheet-case l e g (λ (r : Ruling). Listed (ruled r)) refl refl (λ p. refl) (λ p. refl) (λ p. refl) (λ i p. refl) (λ i p. refl)
+  listed-ruled e g = sheet-case v l e g (λ (r : Ruling). Listed l (ruled r)) refl refl (λ p. refl) (λ p. refl) (λ p. refl) (λ i p. refl) (λ i p. refl)
 
-  listed-before : (a b : Option Flaw) → Listed a → (a ≡ none → Listed b) → Listed (before a b)
+  listed-before : (a b : Option Flaw) → Listed l a → (a ≡ none → Listed l b) → Listed l (before a b)
   listed-before none b x y = y refl
   listed-before (some f) b x y = x
 
-  pub check-numbers : Listed (checkAgainst l)
+  pub check-numbers : Listed l (checkAgainst v l)
   check-numbers =
-      listed-before (headAgainst l) (pathsAgainst l) listed-head
-      (λ e. listed-before (looked VERSION (meshAt l .longest) l HEAD 0 (countAt l)) (ruled (sheetRuling l)) (listed-looked (meshAt l .longest) HEAD 0 (countAt l)) (λ g. listed-ruled e g))
+      listed-before (headAgainst v l) (pathsAgainst v l) listed-head
+      (λ e. listed-before (looked v (meshAt l .longest) l HEAD 0 (countAt l)) (ruled (sheetRuling v l)) (listed-looked (meshAt l .longest) HEAD 0 (countAt l)) (λ g. listed-ruled e g))

@@ -3,7 +3,7 @@ ghost use mathlib.Core.Path.{_≡_};
 ghost use lib.ListN.{length};
 ghost use Rattle.mesh.specs.Limits.{mostLinks, mostPlaces};
 ghost use Rattle.judge.specs.Says.{verdictTold, ruling};
-ghost use Rattle.sheet.specs.Format.{VERSION, HEAD, pathsAt};
+ghost use Rattle.sheet.specs.Format.{HEAD, pathsAt};
 ghost use Rattle.sheet.specs.Says.{readingTold};
 ghost use Rattle.sheet_check.specs.Says.{sheetTold, pathsAgainst, rulingOf, flawIn};
 ghost use Rattle.sheet_check.specs.Needs.{Bodied, Judgeable};
@@ -15,6 +15,7 @@ use sheet_take::Looked;
 
 // The judge's verdict on the k paths, which were looked through, and on what they are asked for. They are taken into the slices lent for that.
 fn judged_in(
+    version: u64,
     mesh: Mesh,
     source: u64,
     longest: usize,
@@ -24,23 +25,24 @@ fn judged_in(
     counts: &mut [u64],
     targets: &mut [u64],
 ) -> Verdict
-    requires { ⌜ Judgeable (now bytes) (mesh .kind) (mesh .size) longest k (length (now places)) (length (now counts)) (length (now targets)) ⌝ }
-    ensures { λ r. ⌜ verdictTold r ≡ rulingOf (mesh .kind) (mesh .size) source (pathsAt VERSION (now (bytes .entry)) HEAD k) ⌝ }
+    requires { ⌜ Judgeable version (now bytes) (mesh .kind) (mesh .size) longest k (length (now places)) (length (now counts)) (length (now targets)) ⌝ }
+    ensures { λ r. ⌜ verdictTold r ≡ rulingOf (mesh .kind) (mesh .size) source (pathsAt version (now (bytes .entry)) HEAD k) ⌝ }
 {
-    sheet_take::take_paths(bytes, source, longest, k, places, counts, targets);
+    sheet_take::take_paths(version, bytes, source, longest, k, places, counts, targets);
     let end = k * (longest + 1);
     judge::judge(mesh, source, &targets[..k], &places[..end], &counts[..k])
 }
 
 // The same, in room of its own: as much as any mesh wants.
-fn judged(mesh: Mesh, source: u64, longest: usize, k: usize, bytes: &[u8]) -> Verdict
-    requires { ⌜ Judgeable (now bytes) (mesh .kind) (mesh .size) longest k mostPlaces mostLinks mostLinks ⌝ }
-    ensures { λ r. ⌜ verdictTold r ≡ rulingOf (mesh .kind) (mesh .size) source (pathsAt VERSION (now (bytes .entry)) HEAD k) ⌝ }
+fn judged(version: u64, mesh: Mesh, source: u64, longest: usize, k: usize, bytes: &[u8]) -> Verdict
+    requires { ⌜ Judgeable version (now bytes) (mesh .kind) (mesh .size) longest k mostPlaces mostLinks mostLinks ⌝ }
+    ensures { λ r. ⌜ verdictTold r ≡ rulingOf (mesh .kind) (mesh .size) source (pathsAt version (now (bytes .entry)) HEAD k) ⌝ }
 {
     let mut places = [0u64; mesh::MOST_PLACES];
     let mut counts = [0u64; mesh::MOST_LINKS];
     let mut targets = [0u64; mesh::MOST_LINKS];
     judged_in(
+        version,
         mesh,
         source,
         longest,
@@ -68,17 +70,17 @@ fn flaw_in(number: u64, path: usize, place: usize) -> Flaw
     }
 }
 
-// The k paths after a head that tells of them: what is wrong with their bytes, and then what the judge says of them.
-pub fn check_paths(mesh: Mesh, source: u64, k: usize, bytes: &[u8]) -> Reading
-    requires { ⌜ Bodied (now bytes) (mesh .kind) (mesh .size) source k ⌝ }
-    ensures { λ r. ⌜ readingTold r ≡ sheetTold (now (bytes .entry)) (pathsAgainst (now (bytes .entry))) ⌝ }
+// The k paths after the head of a sheet of that version, which tells of them: what is wrong with their bytes, and then what the judge says of them.
+pub fn check_paths(version: u64, mesh: Mesh, source: u64, k: usize, bytes: &[u8]) -> Reading
+    requires { ⌜ Bodied version (now bytes) (mesh .kind) (mesh .size) source k ⌝ }
+    ensures { λ r. ⌜ readingTold r ≡ sheetTold (now (bytes .entry)) (pathsAgainst version (now (bytes .entry))) ⌝ }
 {
     let longest = mesh::places_in(mesh) - 1;
-    let looked = sheet_take::look(longest, bytes, k);
+    let looked = sheet_take::look(version, longest, bytes, k);
     if let Looked::Flawed(f) = looked {
         return Reading::Refused(f);
     }
-    let verdict = judged(mesh, source, longest as usize, k, bytes);
+    let verdict = judged(version, mesh, source, longest as usize, k, bytes);
     let number = verdict.number();
     if number == 0 {
         return Reading::Fan(mesh, source, k);

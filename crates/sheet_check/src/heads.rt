@@ -1,7 +1,8 @@
-// The head of a sheet read.
+// The head of a sheet read, of the version that is asked for.
 ghost use mathlib.Core.Path.{_≡_};
 ghost use mathlib.Core.Bool.{true};
 ghost use Rattle.mesh.specs.Kinds.{meshOf, planned};
+ghost use Rattle.sheet.specs.Format.{versionOf};
 ghost use Rattle.sheet.specs.Says.{readingTold, tellRead};
 ghost use Rattle.sheet_check.specs.Says.{sheetTold, headAgainst, countAgainst};
 use mesh::Mesh;
@@ -25,9 +26,22 @@ fn counted(mesh: Mesh, source: u64, k: usize) -> Reading
     Reading::Fan(mesh, source, k)
 }
 
+// The version to read a sheet in that may have either: 2 where it says so, else 1, which then is refused where it is not its own.
+pub fn version_of(bytes: &[u8]) -> u64
+    ensures { λ r. ⌜ r ≡ versionOf (now (bytes .entry)) ⌝ }
+{
+    if bytes.len() < 5 {
+        return 1;
+    }
+    if bytes[4] == 2 {
+        return 2;
+    }
+    1
+}
+
 // What the first 16 bytes tell, or what is wrong with them.
-pub fn head(bytes: &[u8]) -> Reading
-    ensures { λ r. ⌜ readingTold r ≡ sheetTold (now (bytes .entry)) (headAgainst (now (bytes .entry))) ⌝ }
+pub fn head(version: u64, bytes: &[u8]) -> Reading
+    ensures { λ r. ⌜ readingTold r ≡ sheetTold (now (bytes .entry)) (headAgainst version (now (bytes .entry))) ⌝ }
 {
     let n = bytes.len();
     if n < 16 {
@@ -37,7 +51,7 @@ pub fn head(bytes: &[u8]) -> Reading
     if told != (n - 4) as u64 {
         return Reading::Refused(Flaw::Cut);
     }
-    if bytes[4] != 1 {
+    if bytes[4] as u64 != version {
         return Reading::Refused(Flaw::Version);
     }
     let mesh = Mesh {

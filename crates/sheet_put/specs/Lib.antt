@@ -2,3 +2,4 @@
 pub mod Needs
 pub mod Total
 pub mod Putting
+pub mod Stray

@@ -12,8 +12,8 @@ use Rattle.paths.specs.Fan.{hops}
 use Rattle.paths.specs.Lists.{ahead, ahead-length}
 use Rattle.paths.specs.Read.{read}
 use Rattle.paths.specs.Places.{row-below}
-use Rattle.sheet.specs.Format.{VERSION, relaysBytes, pathBytes, pathsBytes, pathsFrom, pathsOf}
-use Rattle.sheet.specs.Lengths.{relays-length}
+use Rattle.sheet.specs.Format.{head, zoneBytes, relaysBytes, pathBytes, pathsBytes, pathsFrom, pathsOf}
+use Rattle.sheet.specs.Lengths.{zone-length, relays-length}
 use Rattle.sheet.specs.Pieces.{after-put}
 use Rattle.sheet_put.specs.Needs.{Paths}
 use Rattle.sheet_put.specs.Total.{total, total-more, pathsOf-more, paths-total, total-within}
@@ -57,54 +57,58 @@ relayed-more {places} {from} {n} {at} {out₀} {out} {out₁} {i} {x} v l e p = 
 pub relayed-ends : {places : List ℕ} {from n at : ℕ} {out₀ out : List ℕ} {i : ℕ} → Relayed places from n at out₀ out i → n ≤ i → out ≡ sets out₀ at (relaysBytes (ahead places from n))
 relayed-ends {places} {from} {n} {at} {out₀} {out} {i} v l = v .is ∙ ap (λ (j : ℕ). sets out₀ at (relaysBytes (ahead places from j))) (omega (arith, v .within))
 
-pub path-put : (places : List ℕ) (from h at : ℕ) (out₀ : List ℕ) {out₁ out₂ : List ℕ} → out₁ ≡ sets out₀ at (big 2 h) → out₂ ≡ sets out₁ (at + 2) (relaysBytes (ahead places from h))
-    → out₂ ≡ sets out₀ at (pathBytes VERSION 0 (ahead places from h))
+pub path-put : (v zone : ℕ) (places : List ℕ) (from h at : ℕ) (out₀ : List ℕ) {head₁ : ℕ} {out₁ out₂ out₃ : List ℕ} → head₁ ≡ head v → out₁ ≡ sets out₀ at (big 2 h) → out₂ ≡ sets out₁ (at + 2) (zoneBytes v zone)
+    → out₃ ≡ sets out₂ (at + head₁) (relaysBytes (ahead places from h)) → out₃ ≡ sets out₀ at (pathBytes v zone (ahead places from h))
 unfolding pathBytes
-path-put places from h at out₀ {out₁} {out₂} p q =
-    q ∙ ap (λ (o : List ℕ). sets o (at + 2) (relaysBytes (ahead places from h))) p
-    ∙ after-put (big 2 h) (relaysBytes (ahead places from h)) out₀ at (at + 2) (omega (arith, big-length 2 h))
-    ∙ ap (λ (n : ℕ). sets out₀ at (big 2 n ++ relaysBytes (ahead places from h))) (sym (ahead-length places from h))
+path-put v zone places from h at out₀ {head₁} {out₁} {out₂} {out₃} e p q r =
+    let run = relaysBytes (ahead places from h) in
+    r ∙ ap₂ (λ (o : List ℕ) (i : ℕ). sets o (at + i) run) q e
+    ∙ after-put (zoneBytes v zone) run out₁ (at + 2) (at + head v) (omega (arith, zone-length v zone))
+    ∙ ap (λ (o : List ℕ). sets o (at + 2) (zoneBytes v zone ++ run)) p
+    ∙ after-put (big 2 h) (zoneBytes v zone ++ run) out₀ at (at + 2) (omega (arith, big-length 2 h))
+    ∙ ap (λ (n : ℕ). sets out₀ at (big 2 n ++ (zoneBytes v zone ++ run))) (sym (ahead-length places from h))
 
-pub record Laying (w : ℕ) (places counts : List ℕ) (k at : ℕ) (out₀ out : List ℕ) (to i : ℕ) : Type 0 where
+pub record Laying (v w : ℕ) (places counts zones : List ℕ) (k at : ℕ) (out₀ out : List ℕ) (to i : ℕ) : Type 0 where
   pub asked : Paths w k (length places) counts
   pub within : i ≤ k
-  pub room : at + total counts k ≤ length out₀
-  pub to-is : to ≡ at + total counts i
+  pub room : at + total v counts k ≤ length out₀
+  pub to-is : to ≡ at + total v counts i
   pub long : length out ≡ length out₀
-  pub is : out ≡ sets out₀ at (pathsBytes VERSION [] (pathsOf w places counts i))
+  pub is : out ≡ sets out₀ at (pathsBytes v zones (pathsOf w places counts i))
 
-pub laying-starts : {w : ℕ} {places counts : List ℕ} {k at : ℕ} {out : List ℕ} → Paths w k (length places) counts → at + total counts k ≤ length out → Laying w places counts k at out out at 0
+pub laying-starts : {v w : ℕ} {places counts zones : List ℕ} {k at : ℕ} {out : List ℕ} → Paths w k (length places) counts → at + total v counts k ≤ length out → Laying v w places counts zones k at out out at 0
 unfolding total pathsBytes pathsFrom
 laying-starts {at = at} a r = record { asked = a; within = omega arith; room = r; to-is = omega arith; long = refl; is = refl }
 
--- the next path: where it stands, and its room
-pub laying-room : {w : ℕ} {places counts : List ℕ} {k at : ℕ} {out₀ out : List ℕ} {to i : ℕ} → Laying w places counts k at out₀ out to i → i < k
-    → (i * w + 1 + getD counts i 0 ≤ length places) × (to + 2 + getD counts i 0 * 8 ≤ length out) × (i < length counts) × (getD counts i 0 ≤ 206)
-unfolding hops
-laying-room {w} {places} {counts} {k} {at} {out₀} {out} {to} {i} v l = (
-  omega (arith, row-below w l, v .asked .room, v .asked .within i l),
-  omega (arith, total-within counts k i l, v .room, v .to-is, v .long),
-  omega (arith, v .asked .headed .counted),
-  v .asked .headed .short i l,
-)
+module _ {v w : ℕ} {places counts zones : List ℕ} {k at : ℕ} {out₀ out : List ℕ} {to i : ℕ} (q : Laying v w places counts zones k at out₀ out to i) where
+  -- the next path: where it stands, and its room
+  pub laying-room : i < k → (i * w + 1 + getD counts i 0 ≤ length places) × (to + head v + getD counts i 0 * 8 ≤ length out) × (i < length counts) × (getD counts i 0 ≤ 206)
+  unfolding hops
+  laying-room l = (
+    omega (arith, row-below w l, q .asked .room, q .asked .within i l),
+    omega (arith, total-within v counts k i l, q .room, q .to-is, q .long),
+    omega (arith, q .asked .headed .counted),
+    q .asked .headed .short i l,
+  )
 
-pub laying-more : {w : ℕ} {places counts : List ℕ} {k at : ℕ} {out₀ out out₁ : List ℕ} {to i h : ℕ} → Laying w places counts k at out₀ out to i → i < k → h ≡ getD counts i 0
-    → out₁ ≡ sets out to (pathBytes VERSION 0 (ahead places (i * w + 1) h)) → Laying w places counts k at out₀ out₁ (to + 2 + h * 8) (i + 1)
-unfolding hops
-laying-more {w} {places} {counts} {k} {at} {out₀} {out} {out₁} {to} {i} {h} v l e p = record {
-  asked = v .asked;
-  within = omega arith;
-  room = v .room;
-  to-is = ap₂ (λ (x y : ℕ). x + 2 + y * 8) (v .to-is) e ∙ omega (arith, total-more counts i, ap (total counts) (add-one i));
-  long = ap length p ∙ length-sets out to (pathBytes VERSION 0 (ahead places (i * w + 1) h)) ∙ v .long;
-  is =
-      p ∙ ap₂ (λ (o : List ℕ) (j : ℕ). sets o to (pathBytes VERSION 0 (ahead places (i * w + 1) j))) (v .is) e
-      ∙ after-put run (pathBytes VERSION 0 (read w places counts i)) out₀ at to (v .to-is ∙ ap (λ (j : ℕ). at + j) (sym (paths-total w places counts i)))
-      ∙ ap (sets out₀ at) (sym (pathsOf-more w places counts i) ∙ ap (λ (j : ℕ). pathsBytes VERSION [] (pathsOf w places counts j)) (sym (add-one i)));
-}
-  where
-    run : List ℕ
-    run = pathsBytes VERSION [] (pathsOf w places counts i)
+  pub laying-more : {h zone head₁ : ℕ} {out₁ : List ℕ} → i < k → head₁ ≡ head v → h ≡ getD counts i 0 → zone ≡ getD zones i 0
+      → out₁ ≡ sets out to (pathBytes v zone (ahead places (i * w + 1) h)) → Laying v w places counts zones k at out₀ out₁ (to + head₁ + h * 8) (i + 1)
+  unfolding hops
+  laying-more {h} {zone} {head₁} {out₁} l f e z p = record {
+    asked = q .asked;
+    within = omega arith;
+    room = q .room;
+    to-is = ap₂ (λ (x y : ℕ). to + x + y * 8) f e ∙ omega (arith, q .to-is, total-more v counts i, ap (total v counts) (add-one i));
+    long = ap length p ∙ length-sets out to (pathBytes v zone (ahead places (i * w + 1) h)) ∙ q .long;
+    is =
+        p ∙ ap₂ (λ (x y : ℕ). sets out to (pathBytes v x (ahead places (i * w + 1) y))) z e
+        ∙ ap (λ (o : List ℕ). sets o to (pathBytes v (getD zones i 0) (read w places counts i))) (q .is)
+        ∙ after-put run (pathBytes v (getD zones i 0) (read w places counts i)) out₀ at to (q .to-is ∙ ap (λ (j : ℕ). at + j) (sym (paths-total v w places counts zones i)))
+        ∙ ap (sets out₀ at) (sym (pathsOf-more v w places counts zones i) ∙ ap (λ (j : ℕ). pathsBytes v zones (pathsOf w places counts j)) (sym (add-one i)));
+  }
+    where
+      run : List ℕ
+      run = pathsBytes v zones (pathsOf w places counts i)
 
-pub laying-ends : {w : ℕ} {places counts : List ℕ} {k at : ℕ} {out₀ out : List ℕ} {to i : ℕ} → Laying w places counts k at out₀ out to i → k ≤ i → out ≡ sets out₀ at (pathsBytes VERSION [] (pathsOf w places counts k))
-laying-ends {w} {places} {counts} {k} {at} {out₀} {out} {to} {i} v l = v .is ∙ ap (λ (j : ℕ). sets out₀ at (pathsBytes VERSION [] (pathsOf w places counts j))) (omega (arith, v .within))
+  pub laying-ends : k ≤ i → out ≡ sets out₀ at (pathsBytes v zones (pathsOf w places counts k))
+  laying-ends l = q .is ∙ ap (λ (j : ℕ). sets out₀ at (pathsBytes v zones (pathsOf w places counts j))) (omega (arith, q .within))

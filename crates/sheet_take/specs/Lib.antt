@@ -3,4 +3,6 @@ pub mod Says
 pub mod Needs
 pub mod Looking
 pub mod Running
+pub mod Along
 pub mod Taking
+pub mod Zoning

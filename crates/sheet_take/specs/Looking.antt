@@ -54,6 +54,7 @@ module _ (v longest : ℕ) (l : List ℕ) (at i : ℕ) where
 
 -- a path with nothing wrong
 pub record Fine (v longest : ℕ) (l : List ℕ) (at : ℕ) : Type 0 where
+  pub begun : at + 2 ≤ length l
   pub some-hops : 0 < hopsAt l at
   pub short : hopsAt l at ≤ longest
   pub within : after v l at ≤ length l
@@ -64,7 +65,7 @@ fine v longest l at i e =
     let b = flawed-none (badHops longest (hopsAt l at)) (flaw.Hops i) _ (a .1) in
     let c = flawed-none (ltb (length l) (after v l at)) flaw.Cut _ (b .1) in
     let d = hops-none (eqb (hopsAt l at) 0) refl (b .0) in
-    record { some-hops = omega (arith, d .0); short = d .1; within = ltb-false (length l) (after v l at) (c .0) }
+    record { begun = ltb-false (length l) (at + 2) (a .0); some-hops = omega (arith, d .0); short = d .1; within = ltb-false (length l) (after v l at) (c .0) }
   where
     hops-none : (b : Bool) → eqb (hopsAt l at) 0 ≡ b → pick b true (ltb longest (hopsAt l at)) ≡ false → (hopsAt l at ≢ 0) × (hopsAt l at ≤ longest)
     hops-none true p q = let z : _≡_ {A = ℕ} 0 1 = cc in absurd (omega arith)

@@ -9,7 +9,7 @@ use lib.Dec.{eqb, ltb}
 use lib.ListN.{length}
 use lib.Seq.{sets}
 use Rattle.scan.specs.Scan.{pick}
-use Rattle.sheet.specs.Format.{VERSION, HEAD, hopsAt, after, pathsAt, placesOf, countsOf, targetsOf}
+use Rattle.sheet.specs.Format.{HEAD, hopsAt, after, pathsAt, placesOf, countsOf, targetsOf}
 use Rattle.sheet.specs.Says.{flawed}
 use Rattle.sheet.specs.declared.Flaw.{Flaw}
 use Rattle.sheet.specs.declared.Flaw.the-variants as flaw
@@ -55,8 +55,8 @@ lookedOf look.Whole = none
 lookedOf (look.Flawed f) = some f
 
 -- the paths' rows, their hops and their last relays
-pub record TakenPaths (l : List ℕ) (s longest k : ℕ) (places counts targets places₁ counts₁ targets₁ : List ℕ) : Type 0 where
-  pub wide : length (placesOf s longest (pathsAt VERSION l HEAD k)) ≡ k * (longest + 1)
-  pub placed : places₁ ≡ sets places 0 (placesOf s longest (pathsAt VERSION l HEAD k))
-  pub counted : counts₁ ≡ sets counts 0 (countsOf (pathsAt VERSION l HEAD k))
-  pub aimed : targets₁ ≡ sets targets 0 (targetsOf s (pathsAt VERSION l HEAD k))
+pub record TakenPaths (v : ℕ) (l : List ℕ) (s longest k : ℕ) (places counts targets places₁ counts₁ targets₁ : List ℕ) : Type 0 where
+  pub wide : length (placesOf s longest (pathsAt v l HEAD k)) ≡ k * (longest + 1)
+  pub placed : places₁ ≡ sets places 0 (placesOf s longest (pathsAt v l HEAD k))
+  pub counted : counts₁ ≡ sets counts 0 (countsOf (pathsAt v l HEAD k))
+  pub aimed : targets₁ ≡ sets targets 0 (targetsOf s (pathsAt v l HEAD k))

@@ -3,9 +3,9 @@ ghost use mathlib.Core.Path.{_≡_};
 ghost use Prim.Native.Nat.{_+_, _*_, _≤_, _<_};
 ghost use lib.ListN.{length};
 ghost use lib.Seq.{sets};
-ghost use Rattle.sheet.specs.Format.{VERSION, HEAD, after, relaysAt, row};
+ghost use Rattle.sheet.specs.Format.{HEAD, head, after, zoneAt, zonesAt, relaysAt, row};
 ghost use Rattle.sheet_take.specs.Says.{looked, wrongAt, tellStride, strideTold, lookedOf, TakenPaths};
-ghost use Rattle.sheet_take.specs.Needs.{Taken};
+ghost use Rattle.sheet_take.specs.Needs.{Taken, Zoned};
 use paths::FILLER;
 use sheet::Flaw;
 
@@ -22,9 +22,9 @@ pub enum Looked {
 }
 
 // Looks at path i, which begins at the place `at`.
-fn look_at(longest: u64, bytes: &[u8], at: usize, i: usize) -> Stride
+fn look_at(version: u64, longest: u64, bytes: &[u8], at: usize, i: usize) -> Stride
     requires { ⌜ (at ≤ length (now bytes)) × (longest ≤ 206) ⌝ }
-    ensures { λ r. ⌜ strideTold r ≡ tellStride (wrongAt VERSION longest (now (bytes .entry)) at i) (after VERSION (now (bytes .entry)) at) ⌝ }
+    ensures { λ r. ⌜ strideTold r ≡ tellStride (wrongAt version longest (now (bytes .entry)) at i) (after version (now (bytes .entry)) at) ⌝ }
 {
     let left = bytes.len() - at;
     if left < 2 {
@@ -37,22 +37,22 @@ fn look_at(longest: u64, bytes: &[u8], at: usize, i: usize) -> Stride
     if longest < h {
         return Stride::Flawed(Flaw::Hops(i));
     }
-    let size = (h as usize) * 8 + 2;
+    let size = sheet::head_bytes(version) + (h as usize) * 8;
     if left < size {
         return Stride::Flawed(Flaw::Cut);
     }
     Stride::Next(at + size)
 }
 
-// Looks through k paths.
-pub fn look(longest: u64, bytes: &[u8], k: usize) -> Looked
+// Looks through k paths of a sheet of that version.
+pub fn look(version: u64, longest: u64, bytes: &[u8], k: usize) -> Looked
     requires { ⌜ (HEAD ≤ length (now bytes)) × (longest ≤ 206) ⌝ }
-    ensures { λ r. ⌜ lookedOf r ≡ looked VERSION longest (now (bytes .entry)) HEAD 0 k ⌝ }
+    ensures { λ r. ⌜ lookedOf r ≡ looked version longest (now (bytes .entry)) HEAD 0 k ⌝ }
 {
     let mut at: usize = 16;
     let mut i: usize = 0;
     while i < k {
-        let stride = look_at(longest, bytes, at, i);
+        let stride = look_at(version, longest, bytes, at, i);
         match stride {
             Stride::Next(to) => at = to,
             Stride::Flawed(f) => return Looked::Flawed(f),
@@ -97,6 +97,7 @@ fn take_path(
 
 // Takes k paths, which were looked through, into their rows, with their hops and their last relays.
 pub fn take_paths(
+    version: u64,
     bytes: &[u8],
     source: u64,
     longest: usize,
@@ -105,17 +106,52 @@ pub fn take_paths(
     counts: &mut [u64],
     targets: &mut [u64],
 )
-    requires { ⌜ Taken (now bytes) longest k (length (now places)) (length (now counts)) (length (now targets)) ⌝ }
-    ensures { λ _. ⌜ TakenPaths (now (bytes .entry)) source longest k (now (places .entry)) (now (counts .entry)) (now (targets .entry)) (now (places .exit)) (now (counts .exit)) (now (targets .exit)) ⌝ }
+    requires { ⌜ Taken version (now bytes) longest k (length (now places)) (length (now counts)) (length (now targets)) ⌝ }
+    ensures { λ _. ⌜ TakenPaths version (now (bytes .entry)) source longest k (now (places .entry)) (now (counts .entry)) (now (targets .entry)) (now (places .exit)) (now (counts .exit)) (now (targets .exit)) ⌝ }
 {
+    let head = sheet::head_bytes(version);
     let mut at: usize = 16;
     let mut i: usize = 0;
     while i < k {
         let h = octets::number(bytes, at, 2) as usize;
-        take_path(bytes, at + 2, h, source, longest, i * (longest + 1), places);
-        at = at + 2 + h * 8;
+        take_path(
+            bytes,
+            at + head,
+            h,
+            source,
+            longest,
+            i * (longest + 1),
+            places,
+        );
+        at = at + head + h * 8;
         counts[i] = h as u64;
         targets[i] = octets::number(bytes, at - 8, 8);
+        i += 1;
+    }
+}
+
+// The zone of the path that begins at the place `at`, and 0 where the version has none.
+fn zone_at(version: u64, bytes: &[u8], at: usize) -> u32
+    requires { ⌜ at + head version ≤ length (now bytes) ⌝ }
+    ensures { λ r. ⌜ r ≡ zoneAt version (now (bytes .entry)) at ⌝ }
+{
+    if version == 2 {
+        return octets::number(bytes, at + 2, 4) as u32;
+    }
+    0
+}
+
+// Takes the zones of k paths, which were looked through.
+pub fn take_zones(version: u64, bytes: &[u8], k: usize, zones: &mut [u32])
+    requires { ⌜ Zoned version (now bytes) k (length (now zones)) ⌝ }
+    ensures { λ _. ⌜ now (zones .exit) ≡ sets (now (zones .entry)) 0 (zonesAt version (now (bytes .entry)) HEAD k) ⌝ }
+{
+    let head = sheet::head_bytes(version);
+    let mut at: usize = 16;
+    let mut i: usize = 0;
+    while i < k {
+        zones[i] = zone_at(version, bytes, at);
+        at = at + head + (octets::number(bytes, at, 2) as usize) * 8;
         i += 1;
     }
 }

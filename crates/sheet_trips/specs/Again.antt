@@ -13,12 +13,12 @@ use borrow.Author.Tests.{eqb-true, not-false}
 use Rattle.scan.specs.Scan.{pick}
 use Rattle.octets.specs.Big.{Bytes, big, number, big-number}
 use Rattle.sheet.specs.Flaws.{flawed-none}
-use Rattle.sheet.specs.Format.{VERSION, HEAD, fields, zoned, head, zoneBytes, relaysBytes, pathBytes, pathsBytes, bodyOf, sheetOf, versionAt, kindAt, sizeAt, countAt, sourceAt, hopsAt, after, zoneAt, relaysAt, pathsAt, zonesAt}
+use Rattle.sheet.specs.Format.{HEAD, fields, zoned, head, zoneBytes, relaysBytes, pathBytes, pathsBytes, bodyOf, sheetOf, versionAt, kindAt, sizeAt, countAt, sourceAt, hopsAt, after, zoneAt, relaysAt, pathsAt, zonesAt}
 use Rattle.sheet.specs.Lengths.{relays-count, paths-length}
 use Rattle.sheet.specs.declared.Flaw.the-variants as flaw
 use Rattle.sheet_take.specs.Looking.{looked-first}
 use Rattle.sheet_take.specs.Says.{looked}
-use Rattle.sheet_check.specs.Says.{meshAt, sheetPaths}
+use Rattle.sheet_check.specs.Says.{meshAt, sheetPaths, sheetZones}
 use Rattle.sheet_trips.specs.Accepted.{Accepted}
 
 -- after the last path the bytes end
@@ -33,12 +33,6 @@ head-is v = go (zoned v)
     go : (z : Bool) → pick z 6 2 ≡ 2 + pick z 4 0
     go true = refl
     go false = refl
-
--- version 1 has no zones, whatever stands in the list
-unzoned : (zones others : List ℕ) (ps : List (List ℕ)) → pathsBytes VERSION zones ps ≡ pathsBytes VERSION others ps
-unfolding pathsBytes pathBytes
-unzoned zones others [] = refl
-unzoned zones others (p ∷ ps) = ap (λ (r : List ℕ). pathBytes VERSION 0 p ++ r) (unzoned (drop 1 zones) (drop 1 others) ps)
 
 module _ (l : List ℕ) (b : Bytes l) where
   -- n bytes and what follows them, after a place
@@ -83,19 +77,19 @@ module _ (l : List ℕ) (b : Bytes l) where
 
   -- ---- a sheet
 
-  module _ (places counts targets : ℕ) (a : Accepted l places counts targets) where
-    body-again : bodyOf VERSION (kindAt l) (sizeAt l) (sourceAt l) [] (sheetPaths l) ≡ drop 4 l
+  module _ (v places counts targets : ℕ) (a : Accepted v l places counts targets) where
+    body-again : bodyOf v (kindAt l) (sizeAt l) (sourceAt l) (sheetZones v l) (sheetPaths v l) ≡ drop 4 l
     unfolding bodyOf
     body-again =
         let long = a .long in
-        append-assoc (fields VERSION (kindAt l) (sizeAt l) (length (sheetPaths l))) (big 8 (sourceAt l)) (pathsBytes VERSION [] (sheetPaths l))
-        ∙ ap (λ (r : List ℕ). fields VERSION (kindAt l) (sizeAt l) (length (sheetPaths l)) ++ r)
-        (ap₂ _++_ (big-number l b 8 8 (omega arith)) (unzoned [] (zonesAt VERSION l HEAD (countAt l)) (sheetPaths l) ∙ paths-again VERSION (meshAt l .longest) HEAD 0 (countAt l) (a .looks)) ∙ take-rest 8 8)
-        ∙ ap₂ (λ (v k : ℕ). v ∷ kindAt l ∷ sizeAt l ∷ k ∷ drop 8 l) (sym (a .version)) (paths-length VERSION l HEAD (countAt l))
+        append-assoc (fields v (kindAt l) (sizeAt l) (length (sheetPaths v l))) (big 8 (sourceAt l)) (pathsBytes v (sheetZones v l) (sheetPaths v l))
+        ∙ ap (λ (r : List ℕ). fields v (kindAt l) (sizeAt l) (length (sheetPaths v l)) ++ r)
+        (ap₂ _++_ (big-number l b 8 8 (omega arith)) (paths-again v (meshAt l .longest) HEAD 0 (countAt l) (a .looks)) ∙ take-rest 8 8)
+        ∙ ap₂ (λ (v k : ℕ). v ∷ kindAt l ∷ sizeAt l ∷ k ∷ drop 8 l) (sym (a .version)) (paths-length v l HEAD (countAt l))
         ∙ sym (drop-cons l 4 0 (omega arith) ∙ ap (λ (r : List ℕ). versionAt l ∷ r) (drop-cons l 5 0 (omega arith)
         ∙ ap (λ (r : List ℕ). kindAt l ∷ r) (drop-cons l 6 0 (omega arith) ∙ ap (λ (r : List ℕ). sizeAt l ∷ r) (drop-cons l 7 0 (omega arith)))))
 
-    pub sheet-again : sheetOf VERSION (kindAt l) (sizeAt l) (sourceAt l) [] (sheetPaths l) ≡ l
+    pub sheet-again : sheetOf v (kindAt l) (sizeAt l) (sourceAt l) (sheetZones v l) (sheetPaths v l) ≡ l
     unfolding sheetOf
     sheet-again =
         let long = a .long in
@@ -103,9 +97,10 @@ module _ (l : List ℕ) (b : Bytes l) where
         ∙ ap (λ (n : ℕ). big 4 n ++ drop 4 l) (length-drop 4 l ∙ sym (a .counted))
         ∙ ap (λ (r : List ℕ). r ++ drop 4 l) (big-number l b 0 4 (omega arith)) ∙ take-rest 0 4
 
--- sheets that hold the same fan are the same
-pub same-sheet : (l r : List ℕ) → Bytes l → Bytes r → (p c t q d u : ℕ) → Accepted l p c t → Accepted r q d u → kindAt l ≡ kindAt r → sizeAt l ≡ sizeAt r
-    → sourceAt l ≡ sourceAt r → sheetPaths l ≡ sheetPaths r → l ≡ r
-same-sheet l r b e p c t q d u a f kind size source paths =
-    sym (sheet-again l b p c t a) ∙ ap₂ (λ (x y : ℕ). sheetOf VERSION x y (sourceAt l) [] (sheetPaths l)) kind size
-    ∙ ap₂ (λ (x : ℕ) (ps : List (List ℕ)). sheetOf VERSION (kindAt r) (sizeAt r) x [] ps) source paths ∙ sheet-again r e q d u f
+-- sheets of a version that hold the same fan with the same zones are the same
+pub same-sheet : (v : ℕ) (l r : List ℕ) → Bytes l → Bytes r → (p c t q d u : ℕ) → Accepted v l p c t → Accepted v r q d u → kindAt l ≡ kindAt r → sizeAt l ≡ sizeAt r
+    → sourceAt l ≡ sourceAt r → sheetPaths v l ≡ sheetPaths v r → sheetZones v l ≡ sheetZones v r → l ≡ r
+same-sheet v l r b e p c t q d u a f kind size source paths zones =
+    sym (sheet-again l b v p c t a) ∙ ap₂ (λ (x y : ℕ). sheetOf v x y (sourceAt l) (sheetZones v l) (sheetPaths v l)) kind size
+    ∙ ap₂ (λ (x : ℕ) (ps : List (List ℕ)). sheetOf v (kindAt r) (sizeAt r) x (sheetZones v l) ps) source paths
+    ∙ ap (λ (zs : List ℕ). sheetOf v (kindAt r) (sizeAt r) (sourceAt r) zs (sheetPaths v r)) zones ∙ sheet-again r e v q d u f

@@ -3,6 +3,7 @@ pub mod There
 pub mod Fits
 pub mod Accepted
 pub mod Again
+pub mod Zones
 pub mod TripsRead
 pub mod TripsWrite
 pub mod Trips

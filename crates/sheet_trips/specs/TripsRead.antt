@@ -1,5 +1,5 @@
--- Main theorem `write-read`: a fan that is written, and is no lone path of a two-level mesh, reads back the same, request, places and counts. Assumes
--- nothing.
+-- Main theorem `write-read`: a fan with its zones that is written in version v, and is no lone path of a two-level mesh, reads back the same, request, places, counts and
+-- the zones that the version has. Assumes nothing.
 use Prim.Native.Nat.{ℕ, _+_, _*_, _^_, _≤_, _<_}
 use mathlib.Core.Path.{_≡_, sym, ap, ap₂, _∙_, subst}
 use mathlib.Core.Bool.{true, false}
@@ -14,37 +14,39 @@ use Rattle.mesh.specs.Kinds.{kindOf, meshOf, planned}
 use Rattle.mesh.specs.Limits.{planned-links, known-width, known-relays}
 use Rattle.mesh.specs.Requests.{Fine}
 use Rattle.judge.specs.Says.{numberOf, judgeTold}
-use Rattle.sheet.specs.Format.{VERSION, HEAD, pathsBytes, sheetOf, kindAt, sizeAt, countAt, sourceAt, pathsAt, placesOf, countsOf, targetsOf, pathsOf}
+use Rattle.sheet.specs.Format.{HEAD, head, pathsBytes, sheetOf, versionAt, kindAt, sizeAt, countAt, sourceAt, pathsAt, zonesAt, zonesOf, placesOf, countsOf, targetsOf, pathsOf}
 use Rattle.sheet.specs.Judging.{Judged, judged, judged-told, judged-fine, judged-same}
-use Rattle.sheet.specs.Lengths.{pathsFrom-length, bytesOf}
+use Rattle.sheet.specs.Lengths.{head-bounds, pathsFrom-length, bytesOf}
 use Rattle.sheet.specs.Lent.{within-of, places-of, counts-of, targets-of}
 use Rattle.sheet.specs.Most.{bytes-most}
 use Rattle.sheet.specs.Says.{lone}
 use Rattle.sheet_take.specs.Says.{looked}
-use Rattle.sheet_check.specs.Says.{meshAt, sheetPaths, sheetTargets, sheetPlaces, sheetCounts}
+use Rattle.sheet_check.specs.Says.{meshAt, sheetPaths, sheetTargets, sheetPlaces, sheetCounts, sheetZones}
 use Rattle.sheet_read.specs.Says.{readAgainst}
 use Rattle.sheet_trips.specs.Accepted.{Accepted, accepts}
 use Rattle.sheet_trips.specs.Fits.{fan-fits}
-use Rattle.sheet_trips.specs.There.{Fit, Head, pathsAt-there, looked-there, head-there}
+use Rattle.sheet_trips.specs.There.{Fit, Narrow, Head, pathsAt-there, zonesAt-there, looked-there, head-there}
 
 -- what the judge tells of a request and slices: 0 of a fan
 abbrev ruling : (kind size s : ℕ) (targets places counts : List ℕ) → ℕ
 ruling kind size s targets places counts = numberOf (judgeTold (kindOf kind) size s targets places counts false)
 
 -- what is read of the sheet of a fan
-pub record ReadsBack (kind size s : ℕ) (targets places counts l : List ℕ) : Type 0 where
+pub record ReadsBack (v : ℕ) (zones : List ℕ) (kind size s : ℕ) (targets places counts l : List ℕ) : Type 0 where
+  pub version-is : versionAt l ≡ v
   pub kind-is : kindAt l ≡ kind
   pub size-is : sizeAt l ≡ size
   pub source-is : sourceAt l ≡ s
   pub count-is : countAt l ≡ length targets
-  pub paths-are : sheetPaths l ≡ pathsOf (width (meshOf kind size)) places counts (length targets)
-  pub targets-are : sheetTargets l ≡ targets
-  pub places-are : sheetPlaces l ≡ take (length targets * width (meshOf kind size)) places
-  pub counts-are : sheetCounts l ≡ take (length targets) counts
+  pub paths-are : sheetPaths v l ≡ pathsOf (width (meshOf kind size)) places counts (length targets)
+  pub targets-are : sheetTargets v l ≡ targets
+  pub places-are : sheetPlaces v l ≡ take (length targets * width (meshOf kind size)) places
+  pub counts-are : sheetCounts v l ≡ take (length targets) counts
+  pub zones-are : sheetZones v l ≡ zonesOf v zones (length targets)
   -- nothing stands against it where there is room
-  pub no-flaw : (p c t : ℕ) → length targets * width (meshOf kind size) ≤ p → length targets ≤ c → length targets ≤ t → readAgainst l p c t ≡ none
+  pub no-flaw : (p c t : ℕ) → length targets * width (meshOf kind size) ≤ p → length targets ≤ c → length targets ≤ t → readAgainst v l p c t ≡ none
 
-module _ (kind size s : ℕ) (targets places counts : List ℕ) (p : planned kind size ≡ true) (e : numberOf (judgeTold (kindOf kind) size s targets places counts false) ≡ 0)
+module _ (v : ℕ) (zones : List ℕ) (narrow-zones : Narrow zones) (kind size s : ℕ) (targets places counts : List ℕ) (p : planned kind size ≡ true) (e : numberOf (judgeTold (kindOf kind) size s targets places counts false) ≡ 0)
     (several : lone kind (length targets) ≡ false) where
   abbrev m : Mesh
   m = meshOf kind size
@@ -76,12 +78,12 @@ module _ (kind size s : ℕ) (targets places counts : List ℕ) (p : planned kin
   how-many : length ps ≡ k
   how-many = pathsFrom-length w places counts 0 k
 
-  few-bytes : 12 + bytesOf VERSION ps < 256 ^ 4
+  few-bytes : 12 + bytesOf v ps < 256 ^ 4
   few-bytes =
       let within = within-of m s places counts targets (is-judged .fan) in
       let few : length ps ≤ 32 = omega (arith, how-many, fine .sound .few, planned-links kind size p) in
-      let path : 2 + 8 * m .longest ≤ 1650 = omega (arith, few-hops) in
-      omega (arith, bytes-most VERSION (m .longest) ps within, mul-le-mul few path)
+      let path : head v + 8 * m .longest ≤ 1654 = omega (arith, few-hops, head-bounds v .1) in
+      omega (arith, bytes-most v (m .longest) ps within, mul-le-mul few path)
 
   -- the places and counts that are read
   taken : Judged (kindOf kind) size s targets (take (k * w) places) (take k counts)
@@ -91,43 +93,49 @@ module _ (kind size s : ℕ) (targets places counts : List ℕ) (p : planned kin
       judged-same (kindOf kind) size s targets places counts (take (k * w) places) (take k counts) is-judged (omega (arith, room)) (omega (arith, counted))
       (λ j g. getD-take (k * w) places j 0 g) (λ j g. getD-take k counts j 0 g)
 
-  module _ (l : List ℕ) (h : Head VERSION kind size s (length ps) (pathsBytes VERSION [] ps) l) where
+  module _ (l : List ℕ) (h : Head v kind size s (length ps) (pathsBytes v zones ps) l) where
     same-mesh : meshAt l ≡ m
     same-mesh = ap₂ meshOf (h .kind-is) (h .size-is)
 
     same-count : countAt l ≡ k
     same-count = h .count-is ∙ how-many
 
-    same-paths : sheetPaths l ≡ ps
+    same-paths : sheetPaths v l ≡ ps
     same-paths =
-        ap (pathsAt VERSION l HEAD) (h .count-is)
-        ∙ pathsAt-there VERSION (m .longest) (omega (arith, few-hops)) l ps [] [] HEAD fits (h .long) (h .after-it ∙ sym (append-nil (pathsBytes VERSION [] ps)))
+        ap (pathsAt v l HEAD) (h .count-is)
+        ∙ pathsAt-there v (m .longest) (omega (arith, few-hops)) l ps zones [] HEAD fits (h .long) (h .after-it ∙ sym (append-nil (pathsBytes v zones ps)))
 
-    same-targets : sheetTargets l ≡ targets
+    same-zones : sheetZones v l ≡ zonesOf v zones k
+    same-zones =
+        ap (zonesAt v l HEAD) (h .count-is)
+        ∙ zonesAt-there v (m .longest) (omega (arith, few-hops)) l ps zones [] HEAD fits narrow-zones (h .long) (h .after-it ∙ sym (append-nil (pathsBytes v zones ps)))
+        ∙ ap (zonesOf v zones) how-many
+
+    same-targets : sheetTargets v l ≡ targets
     same-targets = ap₂ targetsOf (h .source-is) same-paths ∙ targets-of m s places counts targets (is-judged .fan)
 
-    same-places : sheetPlaces l ≡ take (k * w) places
+    same-places : sheetPlaces v l ≡ take (k * w) places
     same-places =
-        ap₂ (λ (u : ℕ) (n : Mesh). placesOf u (n .longest) (sheetPaths l)) (h .source-is) same-mesh ∙ ap (placesOf s (m .longest)) same-paths
+        ap₂ (λ (u : ℕ) (n : Mesh). placesOf u (n .longest) (sheetPaths v l)) (h .source-is) same-mesh ∙ ap (placesOf s (m .longest)) same-paths
         ∙ places-of m s places counts targets (is-judged .fan) (is-judged .room)
 
-    same-counts : sheetCounts l ≡ take k counts
+    same-counts : sheetCounts v l ≡ take k counts
     same-counts = ap countsOf same-paths ∙ counts-of m s places counts targets (is-judged .fan) (is-judged .counted)
 
-    looks : looked VERSION (meshAt l .longest) l HEAD 0 (countAt l) ≡ none
+    looks : looked v (meshAt l .longest) l HEAD 0 (countAt l) ≡ none
     looks =
-        ap₂ (λ (n : Mesh) (c : ℕ). looked VERSION (n .longest) l HEAD 0 c) same-mesh (h .count-is)
-        ∙ looked-there VERSION (m .longest) (omega (arith, few-hops)) l ps [] HEAD 0 fits (h .long) (h .after-it)
+        ap₂ (λ (n : Mesh) (c : ℕ). looked v (n .longest) l HEAD 0 c) same-mesh (h .count-is)
+        ∙ looked-there v (m .longest) (omega (arith, few-hops)) l ps zones HEAD 0 fits (h .long) (h .after-it)
 
     -- the judge finds in what is read what it found before
-    is-fan : numberOf (judgeTold (kindOf (kindAt l)) (sizeAt l) (sourceAt l) (sheetTargets l) (sheetPlaces l) (sheetCounts l) false) ≡ 0
+    is-fan : numberOf (judgeTold (kindOf (kindAt l)) (sizeAt l) (sourceAt l) (sheetTargets v l) (sheetPlaces v l) (sheetCounts v l) false) ≡ 0
     is-fan =
-        ap₂ (λ (x y : ℕ). ruling x y (sourceAt l) (sheetTargets l) (sheetPlaces l) (sheetCounts l)) (h .kind-is) (h .size-is)
-        ∙ ap₂ (λ (x : ℕ) (t : List ℕ). ruling kind size x t (sheetPlaces l) (sheetCounts l)) (h .source-is) same-targets
+        ap₂ (λ (x y : ℕ). ruling x y (sourceAt l) (sheetTargets v l) (sheetPlaces v l) (sheetCounts v l)) (h .kind-is) (h .size-is)
+        ∙ ap₂ (λ (x : ℕ) (t : List ℕ). ruling kind size x t (sheetPlaces v l) (sheetCounts v l)) (h .source-is) same-targets
         ∙ ap₂ (ruling kind size s targets) same-places same-counts
         ∙ judged-told (kindOf kind) size s targets (take (k * w) places) (take k counts) taken
 
-    is-accepted : (q c t : ℕ) → k * w ≤ q → k ≤ c → k ≤ t → Accepted l q c t
+    is-accepted : (q c t : ℕ) → k * w ≤ q → k ≤ c → k ≤ t → Accepted v l q c t
     is-accepted q c t a b d = record {
       long = h .long;
       counted = h .counted;
@@ -143,8 +151,9 @@ module _ (kind size s : ℕ) (targets places counts : List ℕ) (p : planned kin
       is-fan = is-fan;
     }
 
-    reads-back : ReadsBack kind size s targets places counts l
+    reads-back : ReadsBack v zones kind size s targets places counts l
     reads-back = record {
+      version-is = h .version;
       kind-is = h .kind-is;
       size-is = h .size-is;
       source-is = h .source-is;
@@ -153,8 +162,9 @@ module _ (kind size s : ℕ) (targets places counts : List ℕ) (p : planned kin
       targets-are = same-targets;
       places-are = same-places;
       counts-are = same-counts;
-      no-flaw = λ q c t a b d. accepts l q c t (is-accepted q c t a b d);
+      zones-are = same-zones;
+      no-flaw = λ q c t a b d. accepts v l q c t (is-accepted q c t a b d);
     }
 
-  pub write-read : ReadsBack kind size s targets places counts (sheetOf VERSION kind size s [] ps)
-  write-read = reads-back (sheetOf VERSION kind size s [] ps) (head-there VERSION kind size s [] ps (omega (arith, fine .sound .source, narrow)) few-bytes)
+  pub write-read : ReadsBack v zones kind size s targets places counts (sheetOf v kind size s zones ps)
+  write-read = reads-back (sheetOf v kind size s zones ps) (head-there v kind size s zones ps (omega (arith, fine .sound .source, narrow)) few-bytes)

@@ -52,16 +52,16 @@ few-enough k a b c e =
     let q = neither-wanting (ltb b k) (ltb c k) refl (p .1) in
     (ltb-false a k (p .0), ltb-false b k (q .0), ltb-false c k (q .1))
 
-module _ (q : Asked) (places counts : List ℕ) (fails : Failed) (ends hops wholes : List ℕ) where
+module _ (wanting : Bool) (q : Asked) (places counts : List ℕ) (fails : Failed) (ends hops wholes : List ℕ) where
   abbrev against : Option Refusal
-  against = askedAgainst q places counts (lacking (q .targets) ends hops wholes)
+  against = askedAgainst q places counts (lacking wanting (q .targets) ends hops wholes)
 
   abbrev first : Finding
   first = askedFinding q places counts
 
   -- nothing is counted, and the columns stay
   not-survived : (t : Tally) → countOf t ≡ 0 → numberOf (verdictTold (verdictOf t)) ≢ 0 → verdictTold (verdictOf t) ≡ rule against first
-      → Survived q places counts fails ends hops wholes t ends hops wholes
+      → Survived wanting q places counts fails ends hops wholes t ends hops wholes
   not-survived t z ne e = record {
     told = ap₂ tallied e (z ∙ sym (stays _ 0));
     ended = sym (stays _ ends);
@@ -73,11 +73,11 @@ module _ (q : Asked) (places counts : List ℕ) (fails : Failed) (ends hops whol
       stays a b = settled-not a b against first (λ y. ne (ap numberOf e ∙ y))
 
   pub found-survived : {f : code.Finding} {v : Verdict} → v ≡ verdict.Found f → verdictTold v ≡ rule against first
-      → Survived q places counts fails ends hops wholes (tally.Found f) ends hops wholes
+      → Survived wanting q places counts fails ends hops wholes (tally.Found f) ends hops wholes
   found-survived {f} g e = not-survived (tally.Found f) refl (found-number f) (sym (ap verdictTold g) ∙ e)
 
   pub refused-survived : {why : Refusal} {v : Verdict} → v ≡ verdict.Refused why → verdictTold v ≡ rule against first
-      → Survived q places counts fails ends hops wholes (tally.Refused why) ends hops wholes
+      → Survived wanting q places counts fails ends hops wholes (tally.Refused why) ends hops wholes
   refused-survived {why} g e = not-survived (tally.Refused why) refl (refused-number why) (sym (ap verdictTold g) ∙ e)
 
   -- nothing is found
@@ -85,8 +85,8 @@ module _ (q : Asked) (places counts : List ℕ) (fails : Failed) (ends hops whol
     pub judged-clean : (against ≡ none) × (first ≡ clean)
     judged-clean = rule-clean against first (findings-numbered (q .rules) (q .source) (q .targets) places counts) e
 
-    pub judged-passed : Passed q (length places) (length counts) (lacking (q .targets) ends hops wholes)
-    judged-passed = asked-passed q places counts (lacking (q .targets) ends hops wholes) (judged-clean .0)
+    pub judged-passed : Passed q (length places) (length counts) (lacking wanting (q .targets) ends hops wholes)
+    judged-passed = asked-passed q places counts (lacking wanting (q .targets) ends hops wholes) (judged-clean .0)
 
     -- what code has of what a path takes, and of the targets
     module _ {w : ℕ} {l : List ℕ} (wide : w ≡ span (q .rules)) (all : l ≡ q .targets) where
@@ -95,7 +95,8 @@ module _ (q : Asked) (places counts : List ℕ) (fails : Failed) (ends hops whol
           let k = length l in
           let many : k ≡ length (q .targets) = ap length all in
           let enough = passed-lent judged-passed all wide in
-          let columns = few-enough (length (q .targets)) (length ends) (length hops) (length wholes) (judged-passed .lent) in
+          let fed = neither-wanting wanting (few (length (q .targets)) (length ends) (length hops) (length wholes)) refl (judged-passed .lent) in
+          let columns = few-enough (length (q .targets)) (length ends) (length hops) (length wholes) (fed .1) in
           let keeps = clean-keeps (q .rules) (q .source) (q .targets) places counts (judged-clean .1) in
           record {
             held = λ j h. record {
@@ -114,7 +115,7 @@ module _ (q : Asked) (places counts : List ℕ) (fails : Failed) (ends hops whol
             subst (λ (t : List ℕ). Columns (span (q .rules)) t places counts fails ends hops wholes r ends₁ hops₁ wholes₁) all
             (subst (λ (v : ℕ). Columns v l places counts fails ends hops wholes r ends₁ hops₁ wholes₁) wide columns)
 
-        pub survived : Survived q places counts fails ends hops wholes (tally.Whole r) ends₁ hops₁ wholes₁
+        pub survived : Survived wanting q places counts fails ends hops wholes (tally.Whole r) ends₁ hops₁ wholes₁
         survived = let c = asked-columns in record {
           told = ap₂ tallied e (c .counted ∙ sym (given _ 0));
           ended = c .ended ∙ sym (given _ ends);
@@ -132,10 +133,10 @@ module _ (K : Kind) (n s t : ℕ) {k : ℕ} (e : k ≡ bundlePaths K n) where
   bundle-many fine = e ∙ ap (λ (b : Bool). pick {A = ℕ} b (K .mesh n .links) 0) (ends-fine K n s t fine .known)
 
   -- what is lacking matters only where nothing else stands against it, and then it has as many paths
-  pub bundle-lacking : (places counts ends hops wholes : List ℕ) {flag : Bool} → flag ≡ few k (length ends) (length hops) (length wholes)
-      → bundleTold K n s t places counts flag ≡ bundleTold K n s t places counts (lacking (endsAt (K .mesh n) t) ends hops wholes)
-  bundle-lacking places counts ends hops wholes {flag} f =
+  pub bundle-lacking : (wanting : Bool) (places counts ends hops wholes : List ℕ) {flag : Bool} → flag ≡ pick wanting true (few k (length ends) (length hops) (length wholes))
+      → bundleTold K n s t places counts flag ≡ bundleTold K n s t places counts (lacking wanting (endsAt (K .mesh n) t) ends hops wholes)
+  bundle-lacking wanting places counts ends hops wholes {flag} f =
       let q = bundleAsked K n s t in
       ap (λ (o : Option Refusal). rule o (askedFinding q places counts))
-      (asked-alike q places counts flag (lacking (endsAt (K .mesh n) t) ends hops wholes)
-      (λ fine. f ∙ ap (λ (j : ℕ). few j (length ends) (length hops) (length wholes)) (bundle-many fine ∙ sym (length-replicate (K .mesh n .links) t))))
+      (asked-alike q places counts flag (lacking wanting (endsAt (K .mesh n) t) ends hops wholes)
+      (λ fine. f ∙ ap (λ (j : ℕ). pick wanting true (few j (length ends) (length hops) (length wholes))) (bundle-many fine ∙ sym (length-replicate (K .mesh n .links) t))))

@@ -4,3 +4,4 @@ pub mod Says
 pub mod Laws
 pub mod Unique
 pub mod Survive
+pub mod Zones

@@ -16,6 +16,7 @@ use Rattle.judge.specs.Says.{Asked, askedAgainst, askedFinding, askedTold}
 use Rattle.columns.specs.Says.{ahead, marks}
 use Rattle.survivors.specs.Tally.{Tallied, tallied, tallyTold}
 use Rattle.survivors.specs.declared.Tally.{Tally}
+use Rattle.survivors.specs.declared.Tally.the-variants as tally
 
 -- fewer than k of one of three
 abbrev pub few : (k a b c : ℕ) → Bool
@@ -27,11 +28,11 @@ settled none clean a b = a
 settled none (found n i p) a b = b
 settled (some why) f a b = b
 
--- whether a column is too short
-abbrev pub lacking : (targets ends hops wholes : List ℕ) → Bool
-lacking targets ends hops wholes = few (length targets) (length ends) (length hops) (length wholes)
+-- whether a column is too short, or something else is lacking
+abbrev pub lacking : (wanting : Bool) (targets ends hops wholes : List ℕ) → Bool
+lacking wanting targets ends hops wholes = pick wanting true (few (length targets) (length ends) (length hops) (length wholes))
 
-module _ (q : Asked) (places counts : List ℕ) (fails : Failed) (ends hops wholes : List ℕ) where
+module _ (wanting : Bool) (q : Asked) (places counts : List ℕ) (fails : Failed) (ends hops wholes : List ℕ) where
   -- how many paths there are, and which of them are whole
   abbrev k : ℕ
   k = length (q .targets)
@@ -40,14 +41,36 @@ module _ (q : Asked) (places counts : List ℕ) (fails : Failed) (ends hops whol
   isWhole = whole (span (q .rules)) places counts fails
 
   abbrev settle : {A : Type 0} → A → A → A
-  settle a b = settled (askedAgainst q places counts (lacking (q .targets) ends hops wholes)) (askedFinding q places counts) a b
+  settle a b = settled (askedAgainst q places counts (lacking wanting (q .targets) ends hops wholes)) (askedFinding q places counts) a b
 
   -- number, path, place, and the count
   abbrev pub survivorsTold : Tallied
-  survivorsTold = tallied (askedTold q places counts (lacking (q .targets) ends hops wholes)) (settle (count isWhole k) 0)
+  survivorsTold = tallied (askedTold q places counts (lacking wanting (q .targets) ends hops wholes)) (settle (count isWhole k) 0)
 
   pub record Survived (r : Tally) (ends₁ hops₁ wholes₁ : List ℕ) : Type 0 where
     pub told : tallyTold r ≡ survivorsTold
     pub ended : ends₁ ≡ settle (ahead k (q .targets) ends) ends
     pub hopped : hops₁ ≡ settle (ahead k (take k counts) hops) hops
     pub marked : wholes₁ ≡ settle (ahead k (marks isWhole k) wholes) wholes
+
+-- ---- with zones
+
+-- fewer than k zones, or places for them
+abbrev pub scarce : (k zones sites : ℕ) → Bool
+scarce k zones sites = pick (ltb zones k) true (ltb sites k)
+
+-- the one where paths are counted, else the other
+abbrev pub counted : {A : Type 0} → Tally → A → A → A
+counted (tally.Whole c) a b = a
+counted (tally.Found f) a b = b
+counted (tally.Refused why) a b = b
+
+module _ (q : Asked) (places counts zones : List ℕ) (fails : Failed) (ends hops wholes sites : List ℕ) where
+  -- too few zones, or places for them, are too few of a column
+  abbrev pub wantingOf : Bool
+  wantingOf = scarce (length (q .targets)) (length zones) (length sites)
+
+  pub record SurvivedZoned (r : Tally) (ends₁ hops₁ wholes₁ sites₁ : List ℕ) : Type 0 where
+    pub survived : Survived wantingOf q places counts fails ends hops wholes r ends₁ hops₁ wholes₁
+    pub zoned : sites₁ ≡ settled (askedAgainst q places counts (lacking wantingOf (q .targets) ends hops wholes)) (askedFinding q places counts)
+        (ahead (length (q .targets)) (take (length (q .targets)) zones) sites) sites

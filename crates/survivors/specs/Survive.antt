@@ -33,23 +33,23 @@ use Rattle.survivors.specs.declared.Tally.{Tally}
 use Rattle.survivors.specs.declared.Tally.the-variants as tally
 
 -- a count is given only where nothing stands against it and nothing is found, and is that of the whole paths
-counted-clean : (q : Asked) (places counts : List ℕ) (fails : Failed) (ends hops₀ wholes : List ℕ) (r : Tally) (ends₁ hops₁ wholes₁ : List ℕ)
-    → Survived q places counts fails ends hops₀ wholes r ends₁ hops₁ wholes₁ → (c : ℕ) → r ≡ tally.Whole c
+counted-clean : (wanting : Bool) (q : Asked) (places counts : List ℕ) (fails : Failed) (ends hops₀ wholes : List ℕ) (r : Tally) (ends₁ hops₁ wholes₁ : List ℕ)
+    → Survived wanting q places counts fails ends hops₀ wholes r ends₁ hops₁ wholes₁ → (c : ℕ) → r ≡ tally.Whole c
     → (first (q .faults) ≡ none) × (askedFinding q places counts ≡ clean) × (c ≡ count (whole (span (q .rules)) places counts fails) (length (q .targets)))
-counted-clean q places counts fails ends hops₀ wholes r ends₁ hops₁ wholes₁ p c e =
+counted-clean wanting q places counts fails ends hops₀ wholes r ends₁ hops₁ wholes₁ p c e =
     let ruled = sym (ap (λ (t : Tally). verdictTold (verdictOf t)) e) ∙ ap rulingOf (p .told) in
-    let none-found = judged-clean q places counts fails ends hops₀ wholes ruled in
-    let passed = judged-passed q places counts fails ends hops₀ wholes ruled in
+    let none-found = judged-clean wanting q places counts fails ends hops₀ wholes ruled in
+    let passed = judged-passed wanting q places counts fails ends hops₀ wholes ruled in
     (passed .faultless, none-found .1, sym (ap countOf e) ∙ ap wholeOf (p .told) ∙ settled-is _ 0 (none-found .0) (none-found .1))
 
 -- ---- a fan
 
-module _ (K : Kind) (n s : ℕ) (targets places counts : List ℕ) (fails : Failed) (ends hops₀ wholes : List ℕ) (r : Tally) (ends₁ hops₁ wholes₁ : List ℕ)
-    (p : Survived (fanAsked K n s targets) places counts fails ends hops₀ wholes r ends₁ hops₁ wholes₁) (c : ℕ) (e : r ≡ tally.Whole c) where
+module _ (wanting : Bool) (K : Kind) (n s : ℕ) (targets places counts : List ℕ) (fails : Failed) (ends hops₀ wholes : List ℕ) (r : Tally) (ends₁ hops₁ wholes₁ : List ℕ)
+    (p : Survived wanting (fanAsked K n s targets) places counts fails ends hops₀ wholes r ends₁ hops₁ wholes₁) (c : ℕ) (e : r ≡ tally.Whole c) where
   -- a count is given of a fan only, from a relay of the mesh, and is that of its whole paths
   pub counted-fan : Fan (K .mesh n) s targets places counts × (s < K .mesh n .relays) × (c ≡ count (whole (width (K .mesh n)) places counts fails) (length targets))
   counted-fan =
-      let r = counted-clean (fanAsked K n s targets) places counts fails ends hops₀ wholes r ends₁ hops₁ wholes₁ p c e in
+      let r = counted-clean wanting (fanAsked K n s targets) places counts fails ends hops₀ wholes r ends₁ hops₁ wholes₁ p c e in
       (clean-fan (K .mesh n) s targets places counts (r .1), request-fine K n s targets (r .0) .sound .source, r .2)
 
   -- f failures, the source not stopped, leave at least paths less f whole
@@ -61,24 +61,24 @@ module _ (K : Kind) (n s : ℕ) (targets places counts : List ℕ) (fails : Fail
   survivors-none h = counted-fan .2 ∙ none-survives (K .mesh n) s targets places counts (counted-fan .0) fails h
 
 -- where nothing has failed, all are whole
-pub survivors-all : (K : Kind) (n s : ℕ) (targets places counts ends hops₀ wholes : List ℕ) (r : Tally) (ends₁ hops₁ wholes₁ : List ℕ)
-    → Survived (fanAsked K n s targets) places counts (failed [] []) ends hops₀ wholes r ends₁ hops₁ wholes₁ → (c : ℕ) → r ≡ tally.Whole c → c ≡ length targets
+pub survivors-all : (wanting : Bool) (K : Kind) (n s : ℕ) (targets places counts ends hops₀ wholes : List ℕ) (r : Tally) (ends₁ hops₁ wholes₁ : List ℕ)
+    → Survived wanting (fanAsked K n s targets) places counts (failed [] []) ends hops₀ wholes r ends₁ hops₁ wholes₁ → (c : ℕ) → r ≡ tally.Whole c → c ≡ length targets
 unfolding different relaysOf linksOf
-survivors-all K n s targets places counts ends hops₀ wholes r ends₁ hops₁ wholes₁ p c e =
-    let all = survivors-survive K n s targets places counts (failed [] []) ends hops₀ wholes r ends₁ hops₁ wholes₁ p c e (has-none s) in
+survivors-all wanting K n s targets places counts ends hops₀ wholes r ends₁ hops₁ wholes₁ p c e =
+    let all = survivors-survive wanting K n s targets places counts (failed [] []) ends hops₀ wholes r ends₁ hops₁ wholes₁ p c e (has-none s) in
     let most = count-most (whole (width (K .mesh n)) places counts (failed [] [])) (length targets) in
-    omega (arith, all, most, counted-fan K n s targets places counts (failed [] []) ends hops₀ wholes r ends₁ hops₁ wholes₁ p c e .2)
+    omega (arith, all, most, counted-fan wanting K n s targets places counts (failed [] []) ends hops₀ wholes r ends₁ hops₁ wholes₁ p c e .2)
 
 -- ---- a bundle
 
-module _ (K : Kind) (n s t : ℕ) (places counts : List ℕ) (fails : Failed) (ends hops₀ wholes : List ℕ) (r : Tally) (ends₁ hops₁ wholes₁ : List ℕ)
-    (p : Survived (bundleAsked K n s t) places counts fails ends hops₀ wholes r ends₁ hops₁ wholes₁) (c : ℕ) (e : r ≡ tally.Whole c) where
+module _ (wanting : Bool) (K : Kind) (n s t : ℕ) (places counts : List ℕ) (fails : Failed) (ends hops₀ wholes : List ℕ) (r : Tally) (ends₁ hops₁ wholes₁ : List ℕ)
+    (p : Survived wanting (bundleAsked K n s t) places counts fails ends hops₀ wholes r ends₁ hops₁ wholes₁) (c : ℕ) (e : r ≡ tally.Whole c) where
   abbrev m : Mesh
   m = K .mesh n
 
   pub counted-bundle : Bundle m s t places counts × (s < m .relays) × (c ≡ count (whole (span (bundleRules m)) places counts fails) (m .links))
   counted-bundle =
-      let r = counted-clean (bundleAsked K n s t) places counts fails ends hops₀ wholes r ends₁ hops₁ wholes₁ p c e in
+      let r = counted-clean wanting (bundleAsked K n s t) places counts fails ends hops₀ wholes r ends₁ hops₁ wholes₁ p c e in
       (clean-bundle m s t places counts (r .1), ends-fine K n s t (r .0) .source, r .2 ∙ ap (count (whole (span (bundleRules m)) places counts fails)) (length-replicate (m .links) t))
 
   -- f failures, neither end stopped, leave at least links less f whole
@@ -91,13 +91,13 @@ module _ (K : Kind) (n s t : ℕ) (places counts : List ℕ) (fails : Failed) (e
       counted-bundle .2
       ∙ ⊎-elim (start-stopped m s t places counts (counted-bundle .0) fails) (end-stopped m s t places counts (counted-bundle .0) fails) h
 
-pub bundle-survivors-all : (K : Kind) (n s t : ℕ) (places counts ends hops₀ wholes : List ℕ) (r : Tally) (ends₁ hops₁ wholes₁ : List ℕ)
-    → Survived (bundleAsked K n s t) places counts (failed [] []) ends hops₀ wholes r ends₁ hops₁ wholes₁ → (c : ℕ) → r ≡ tally.Whole c → c ≡ K .mesh n .links
+pub bundle-survivors-all : (wanting : Bool) (K : Kind) (n s t : ℕ) (places counts ends hops₀ wholes : List ℕ) (r : Tally) (ends₁ hops₁ wholes₁ : List ℕ)
+    → Survived wanting (bundleAsked K n s t) places counts (failed [] []) ends hops₀ wholes r ends₁ hops₁ wholes₁ → (c : ℕ) → r ≡ tally.Whole c → c ≡ K .mesh n .links
 unfolding different relaysOf linksOf
-bundle-survivors-all K n s t places counts ends hops₀ wholes r ends₁ hops₁ wholes₁ p c e =
-    let all = bundle-survivors-survive K n s t places counts (failed [] []) ends hops₀ wholes r ends₁ hops₁ wholes₁ p c e (has-none s) (has-none t) in
+bundle-survivors-all wanting K n s t places counts ends hops₀ wholes r ends₁ hops₁ wholes₁ p c e =
+    let all = bundle-survivors-survive wanting K n s t places counts (failed [] []) ends hops₀ wholes r ends₁ hops₁ wholes₁ p c e (has-none s) (has-none t) in
     let most = count-most (whole (span (bundleRules (K .mesh n))) places counts (failed [] [])) (K .mesh n .links) in
-    omega (arith, all, most, counted-bundle K n s t places counts (failed [] []) ends hops₀ wholes r ends₁ hops₁ wholes₁ p c e .2)
+    omega (arith, all, most, counted-bundle wanting K n s t places counts (failed [] []) ends hops₀ wholes r ends₁ hops₁ wholes₁ p c e .2)
 
 -- where nothing is cut, a path is whole exactly where no relay on it has stopped
 pub nothing-cut : (w : ℕ) (places counts stopped : List ℕ) (i : ℕ)

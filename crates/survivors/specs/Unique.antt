@@ -2,6 +2,7 @@
 -- Assumes nothing.
 use Prim.Native.Nat.{ℕ}
 use mathlib.Core.Path.{_≡_, refl, sym, ap, ap₂, _∙_}
+use mathlib.Core.Bool.{Bool}
 use mathlib.Core.List.{List}
 use Rattle.paths.specs.Whole.{Failed}
 use Rattle.judge.specs.Says.{Asked}
@@ -9,7 +10,7 @@ use Rattle.judge.specs.Unique.{verdict-unique}
 use Rattle.judge.specs.declared.Verdict.{Verdict}
 use Rattle.judge.specs.declared.Verdict.the-variants as verdict
 use Rattle.survivors.specs.Tally.{rulingOf, wholeOf, verdictOf, countOf, tallyTold}
-use Rattle.survivors.specs.Says.{Survived}
+use Rattle.survivors.specs.Says.{Survived, wantingOf, SurvivedZoned}
 use Rattle.survivors.specs.declared.Tally.{Tally}
 use Rattle.survivors.specs.declared.Tally.the-variants as tally
 
@@ -28,12 +29,20 @@ pub tally-unique : (a b : Tally) → tallyTold a ≡ tallyTold b → a ≡ b
 tally-unique a b e =
     sym (tally-back a) ∙ ap₂ tallyOf (verdict-unique (verdictOf a) (verdictOf b) (ap rulingOf e)) (ap wholeOf e) ∙ tally-back b
 
-pub survived-unique : (q : Asked) (places counts : List ℕ) (fails : Failed) (ends hops wholes : List ℕ) (a b : Tally) (ends₁ hops₁ wholes₁ ends₂ hops₂ wholes₂ : List ℕ)
-    → Survived q places counts fails ends hops wholes a ends₁ hops₁ wholes₁ → Survived q places counts fails ends hops wholes b ends₂ hops₂ wholes₂
+pub survived-unique : (wanting : Bool) (q : Asked) (places counts : List ℕ) (fails : Failed) (ends hops wholes : List ℕ) (a b : Tally) (ends₁ hops₁ wholes₁ ends₂ hops₂ wholes₂ : List ℕ)
+    → Survived wanting q places counts fails ends hops wholes a ends₁ hops₁ wholes₁ → Survived wanting q places counts fails ends hops wholes b ends₂ hops₂ wholes₂
     → (a ≡ b) × (ends₁ ≡ ends₂) × (hops₁ ≡ hops₂) × (wholes₁ ≡ wholes₂)
-survived-unique q places counts fails ends hops wholes a b ends₁ hops₁ wholes₁ ends₂ hops₂ wholes₂ p r = (
+survived-unique wanting q places counts fails ends hops wholes a b ends₁ hops₁ wholes₁ ends₂ hops₂ wholes₂ p r = (
   tally-unique a b (p .told ∙ sym (r .told)),
   p .ended ∙ sym (r .ended),
   p .hopped ∙ sym (r .hopped),
   p .marked ∙ sym (r .marked),
 )
+
+pub zoned-unique : (q : Asked) (places counts zones : List ℕ) (fails : Failed) (ends hops wholes sites : List ℕ) (a b : Tally) (ends₁ hops₁ wholes₁ sites₁ ends₂ hops₂ wholes₂ sites₂ : List ℕ)
+    → SurvivedZoned q places counts zones fails ends hops wholes sites a ends₁ hops₁ wholes₁ sites₁
+    → SurvivedZoned q places counts zones fails ends hops wholes sites b ends₂ hops₂ wholes₂ sites₂
+    → (a ≡ b) × (ends₁ ≡ ends₂) × (hops₁ ≡ hops₂) × (wholes₁ ≡ wholes₂) × (sites₁ ≡ sites₂)
+zoned-unique q places counts zones fails ends hops wholes sites a b ends₁ hops₁ wholes₁ sites₁ ends₂ hops₂ wholes₂ sites₂ p r =
+    let s = survived-unique (wantingOf q places counts zones fails ends hops wholes sites) q places counts fails ends hops wholes a b ends₁ hops₁ wholes₁ ends₂ hops₂ wholes₂ (p .survived) (r .survived) in
+    (s .0, s .1, s .2, s .3, p .zoned ∙ sym (r .zoned))

@@ -1,8 +1,13 @@
 // Survivors: which paths of a fan or a bundle are whole where relays have stopped and links are cut.
 mod bundles;
+mod zones;
 
-pub use bundles::bundle_survivors;
+pub use bundles::bundle_three;
+pub use zones::bundle_survivors;
+pub use zones::survivors;
 ghost use mathlib.Core.Path.{_≡_};
+ghost use mathlib.Core.Bool.{true};
+ghost use Rattle.scan.specs.Scan.{pick};
 ghost use Rattle.judge.specs.Says.{numberOf, pathOf, placeOf, fanAsked};
 ghost use Rattle.paths.specs.Whole.{failed};
 ghost use Rattle.mesh.specs.Kinds.{kindOf};
@@ -66,10 +71,13 @@ impl Tally {
     }
 }
 
-// Whether one of three columns has fewer than k places.
-fn few(k: usize, a: usize, b: usize, c: usize) -> bool
-    ensures { λ r. ⌜ r ≡ promise.few k a b c ⌝ }
+// Whether something is lacking, or one of three columns has fewer than k places.
+fn few(lacking: bool, k: usize, a: usize, b: usize, c: usize) -> bool
+    ensures { λ r. ⌜ r ≡ pick lacking true (promise.few k a b c) ⌝ }
 {
+    if lacking {
+        return true;
+    }
     if a < k {
         return true;
     }
@@ -79,12 +87,8 @@ fn few(k: usize, a: usize, b: usize, c: usize) -> bool
     c < k
 }
 
-// Of a fan from the source to the targets, which paths are whole where the relays in `stopped` have stopped and the links in `cuts` are cut: for each path, in
-// the targets' order, its target, its hops, and 1 if it is whole or else 0, in three columns; the places of a column after those stay. Answers how many are
-// whole. Pair j of `cuts` is places 2j and 2j + 1, in either order; a last number without a partner does nothing, nor does a pair that is no link.
-// In the cube of 2 dimensions, of the paths 0, 2, 3 and 0, 1, with relay 2 stopped, the columns hold 3 1, 2 1 and 0 1, and the answer is 1; with the cuts 1, 0
-// it is 1 too, and the third column holds 1 0. Refuses with 1 to 8, or gives the judge's first finding, and then leaves the columns as they were.
-pub fn survivors(
+// The three columns of a fan, for a caller that is lent more, which may be lacking: that is refused 8 too.
+pub fn three(
     mesh: Mesh,
     source: u64,
     targets: &[u64],
@@ -92,14 +96,15 @@ pub fn survivors(
     counts: &[u64],
     stopped: &[u64],
     cuts: &[u64],
+    lacking: bool,
     ends: &mut [u64],
     hops: &mut [u64],
     wholes: &mut [u64],
 ) -> Tally
-    ensures { λ r. ⌜ promise.Survived (fanAsked (kindOf (mesh .kind)) (mesh .size) source (now (targets .entry))) (now (places .entry)) (now (counts .entry)) (failed (now (stopped .entry)) (now (cuts .entry))) (now (ends .entry)) (now (hops .entry)) (now (wholes .entry)) r (now (ends .exit)) (now (hops .exit)) (now (wholes .exit)) ⌝ }
+    ensures { λ r. ⌜ promise.Survived lacking (fanAsked (kindOf (mesh .kind)) (mesh .size) source (now (targets .entry))) (now (places .entry)) (now (counts .entry)) (failed (now (stopped .entry)) (now (cuts .entry))) (now (ends .entry)) (now (hops .entry)) (now (wholes .entry)) r (now (ends .exit)) (now (hops .exit)) (now (wholes .exit)) ⌝ }
 {
-    let lacking = few(targets.len(), ends.len(), hops.len(), wholes.len());
-    let verdict = judge::judge_with(mesh, source, targets, places, counts, lacking);
+    let short = few(lacking, targets.len(), ends.len(), hops.len(), wholes.len());
+    let verdict = judge::judge_with(mesh, source, targets, places, counts, short);
     match verdict {
         Verdict::Fan => {
             let w = mesh::places_in(mesh) as usize;

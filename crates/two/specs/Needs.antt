@@ -27,8 +27,7 @@ pub record Slots (m p q : ℕ) : Type 0 where
   pub from : p < slots m
   pub to : q < slots m
 
--- n is the hops from s to t, and there are more places than that
-pub record Room (m s t n places : ℕ) : Type 0 where
+-- there are more places than hops from s to t
+pub record Room (m s t places : ℕ) : Type 0 where
   pub fine : Fine m s t
-  pub all : n ≡ hops m s t
-  pub room : n < places
+  pub room : hops m s t < places

@@ -134,7 +134,7 @@ rest-some : (m x : ℕ) → x ≢ 0 → rest m x ≡ ones x + (2 ^ m - suc (plac
 unfolding rest
 rest-some m x ne = pick-other x 0 0 (ones x + (2 ^ m - suc (place m x)) + m) ne
 
-pow-next : (m : ℕ) → 2 ^ (m + 1) ≡ 2 ^ m + 2 ^ m
+pub pow-next : (m : ℕ) → 2 ^ (m + 1) ≡ 2 ^ m + 2 ^ m
 pow-next m = ap (λ (j : ℕ). 2 ^ j) (add-one m) ∙ pow-suc 2 m ∙ omega arith
 
 rest-bound : (m x : ℕ) → x < blocks m → rest m x ≤ 2 ^ m + (2 ^ m - 1) + m

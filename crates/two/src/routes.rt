@@ -2,6 +2,7 @@
 ghost use mathlib.Core.Path.{_≡_};
 ghost use mathlib.Core.List.{_++_};
 ghost use Prim.Native.Nat.{_+_};
+ghost use lib.Dec.{leb};
 ghost use lib.ListN.{length, drop};
 ghost use Rattle.answers.specs.Told.{answerTold};
 ghost use Rattle.two_parts.specs.Two as specs;
@@ -32,19 +33,34 @@ fn hops(order: Order, s: u64, t: u64) -> usize
     k
 }
 
-// Writes the n hops of the route from s to t, s first.
-fn write(order: Order, s: u64, t: u64, n: usize, out: &mut [u64])
-    requires { ⌜ Room (order .0) s t n (length (now out)) ⌝ }
-    ensures { λ r. ⌜ now (out .exit) ≡ next.route (order .0) s t ++ drop (n + 1) (now (out .entry)) ⌝ }
+// Whether n places are too few for the route from s to t. No route takes more than 2 ^ (order + 1) + 2 * order places, so that where there are as many it need not be walked to be counted.
+fn short(order: Order, s: u64, t: u64, n: usize) -> bool
+    requires { ⌜ Fine (order .0) s t ⌝ }
+    ensures { λ r. ⌜ r ≡ leb n (next.hops (order .0) s t) ⌝ }
 {
-    out[0] = s;
-    let mut at = s;
-    let mut i: usize = 0;
-    while i < n {
-        at = steps::hop(order, at, t);
-        i += 1;
-        out[i] = at;
+    let m = order.0;
+    let most = 2 * two_parts::slots_in(order) + 2 * m;
+    if most as usize <= n {
+        return false;
     }
+    n <= hops(order, s, t)
+}
+
+// Writes the route from s to t at the front of `out`, and counts its hops.
+fn walk(order: Order, s: u64, t: u64, out: &mut [u64]) -> usize
+    requires { ⌜ Room (order .0) s t (length (now out)) ⌝ }
+    ensures { λ r. ⌜ r ≡ next.hops (order .0) s t ⌝ }
+    ensures { λ r. ⌜ now (out .exit) ≡ next.route (order .0) s t ++ drop (next.hops (order .0) s t + 1) (now (out .entry)) ⌝ }
+{
+    let mut at = s;
+    let mut k: usize = 0;
+    while at != t {
+        out[k] = at;
+        at = steps::hop(order, at, t);
+        k += 1;
+    }
+    out[k] = at;
+    k
 }
 
 // Writes the plain route from source to target into `out`, from place 0, and gives its hops; the places after it stay as they were.
@@ -55,12 +71,10 @@ pub fn route(order: Order, source: u64, target: u64, out: &mut [u64]) -> Answer
 {
     match parts::checked(order, source, target) {
         Checked::Fine => {
-            let n = hops(order, source, target);
-            if out.len() <= n {
+            if short(order, source, target, out.len()) {
                 return Answer::Refused(Refusal::NoRoom);
             }
-            write(order, source, target, n, out);
-            Answer::Value(n as u64)
+            Answer::Value(walk(order, source, target, out) as u64)
         }
         Checked::Refused(why) => Answer::Refused(why),
     }

@@ -1,6 +1,7 @@
 -- `fan::main` is safe: what came lies in its buffer, and so does what is said. Assumes nothing.
 use lib.ListN.{take, replicate}
-use Rattle.fan.specs.Buffers.{part-long, said-within}
+use Rattle.input.specs.Buffers.{part-long}
+use Rattle.fan.specs.Buffers.{said-within}
 use borrow.Author.Needs.{needs}
 use Rattle.fan.proofs.main.Statement.{statement}
 use Rattle.fan.proofs.main.Tie as tie

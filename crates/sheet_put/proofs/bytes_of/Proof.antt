@@ -3,6 +3,7 @@ use Prim.Native.Nat.{_-_}
 use mathlib.Core.Path.{refl}
 use native.Mathlib.Omega.{arith}
 use Rattle.sheet_put.specs.Total.{Summed, summed-starts, summed-small, summed-more, summed-ends}
+use Rattle.sheet.specs.Lengths.{head-bounds}
 use borrow.Author.Needs.{needs}
 use Rattle.sheet_put.proofs.bytes_of.Statement.{statement}
 use Rattle.sheet_put.proofs.bytes_of.Tie as tie
@@ -10,16 +11,19 @@ use Rattle.sheet_put.proofs.bytes_of.Reads as reads
 use Rattle.sheet_put.proofs.bytes_of.Lts as lts
 
 abbrev Inv-loop : tie.InvT-loop
-Inv-loop counts k n₀ i₀ n i = Summed counts k n i
+Inv-loop version counts k head n₀ i₀ n i = Summed version counts k n i
 
 abbrev μ-loop : tie.MeasureT-loop
-μ-loop counts k n₀ i₀ n i = k - i
+μ-loop version counts k head n₀ i₀ n i = k - i
+
+head-bytes-requires : tie.Need-head-bytes-requires Inv-loop μ-loop
+head-bytes-requires c κs = search needs
 
 loop-holds : tie.Need-loop-holds Inv-loop μ-loop
-loop-holds c = summed-starts (c .pre)
+loop-holds c = summed-starts (c .before .before .pre)
 
 add-n : tie.Need-add-n Inv-loop μ-loop
-add-n c = omega (arith, summed-small (c .before .loop .inv) (c .loop-test .taken) .0)
+add-n c = omega (arith, summed-small (c .before .loop .inv) (c .loop-test .taken) .0, c .before .before .head-bytes .ensures, head-bounds (c .before .before .before .before .args .version) .1)
 
 mul-n : tie.Need-mul-n Inv-loop μ-loop
 mul-n c = search needs
@@ -31,7 +35,7 @@ mul-n-2 : tie.Need-mul-n-2 Inv-loop μ-loop
 mul-n-2 c = omega (arith, summed-small (c .before .before .loop .inv) (c .before .loop-test .taken) .1)
 
 add-n-2 : tie.Need-add-n-2 Inv-loop μ-loop
-add-n-2 c = let v = summed-small (c .before .before .loop .inv) (c .before .loop-test .taken) in omega (arith, v .0, v .1)
+add-n-2 c = let v = summed-small (c .before .before .loop .inv) (c .before .loop-test .taken) in omega (arith, v .0, v .1, c .before .before .before .head-bytes .ensures, head-bounds (c .before .before .before .before .before .args .version) .1)
 
 add-i : tie.Need-add-i Inv-loop μ-loop
 add-i c = search needs
@@ -40,7 +44,7 @@ loop-less : tie.Need-loop-less Inv-loop μ-loop
 loop-less c = search needs
 
 loop-again : tie.Need-loop-again Inv-loop μ-loop
-loop-again c = summed-more (c .before .before .loop .inv) (c .before .loop-test .taken) refl
+loop-again c = summed-more (c .before .before .loop .inv) (c .before .loop-test .taken) (c .before .before .before .head-bytes .ensures) refl
 
 returns : tie.Need-returns Inv-loop μ-loop
 returns c = summed-ends (c .before .loop .inv) (c .loop-test .left)
@@ -51,6 +55,7 @@ bytes-of-spec =
     (tie.spec
     Inv-loop
     μ-loop
+    head-bytes-requires
     loop-holds
     add-n
     mul-n

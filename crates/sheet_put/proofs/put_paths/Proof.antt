@@ -11,13 +11,16 @@ use Rattle.sheet_put.proofs.put_paths.Lts as lts
 use Rattle.sheet_put.proofs.put_path.Reads as put-path-reads
 
 abbrev Inv-loop : tie.InvT-loop
-Inv-loop w places counts k at out₀ to₀ i₀ out to i = Laying w places counts k at out₀ out to i
+Inv-loop version w places counts zones k at out₀ head to₀ i₀ out to i = Laying version w places counts zones k at out₀ out to i
 
 abbrev μ-loop : tie.MeasureT-loop
-μ-loop w places counts k at out₀ to₀ i₀ out to i = k - i
+μ-loop version w places counts zones k at out₀ head to₀ i₀ out to i = k - i
+
+head-bytes-requires : tie.Need-head-bytes-requires Inv-loop μ-loop
+head-bytes-requires c κs = search needs
 
 loop-holds : tie.Need-loop-holds Inv-loop μ-loop
-loop-holds c = laying-starts (c .before .before .before .pre .0) (c .before .before .before .pre .1)
+loop-holds c = laying-starts (c .before .before .before .before .before .pre .0) (c .before .before .before .before .before .pre .1)
 
 mul-h : tie.Need-mul-h Inv-loop μ-loop
 mul-h c = search needs
@@ -25,23 +28,26 @@ mul-h c = search needs
 shared-slice-read-h : tie.Need-shared-slice-read-h Inv-loop μ-loop
 shared-slice-read-h c = omega (arith, laying-room (c .before .before .loop .inv) (c .before .loop-test .taken) .2)
 
+zone-of-requires : tie.Need-zone-of-requires Inv-loop μ-loop
+zone-of-requires c κs = search needs
+
 mul-put-path : tie.Need-mul-put-path Inv-loop μ-loop
-mul-put-path c = omega (arith, laying-room (c .before .before .loop .inv) (c .before .loop-test .taken) .0)
+mul-put-path c = omega (arith, laying-room (c .before .before .before .loop .inv) (c .before .before .loop-test .taken) .0)
 
 add-put-path : tie.Need-add-put-path Inv-loop μ-loop
-add-put-path c = omega (arith, laying-room (c .before .before .loop .inv) (c .before .loop-test .taken) .0)
+add-put-path c = omega (arith, laying-room (c .before .before .before .loop .inv) (c .before .before .loop-test .taken) .0)
 
 put-path-requires : tie.Need-put-path-requires Inv-loop μ-loop
-put-path-requires c κs = (laying-room (c .before .before .before .loop .inv) (c .before .before .loop-test .taken) .0, laying-room (c .before .before .before .loop .inv) (c .before .before .loop-test .taken) .1)
+put-path-requires c κs = (laying-room (c .before .before .before .before .loop .inv) (c .before .before .before .loop-test .taken) .0, laying-room (c .before .before .before .before .loop .inv) (c .before .before .before .loop-test .taken) .1)
 
 add-to : tie.Need-add-to Inv-loop μ-loop
-add-to c = omega (arith, laying-room (c .before .before .before .before .before .before .loop .inv) (c .before .before .before .before .before .loop-test .taken) .1)
+add-to c = omega (arith, laying-room (c .before .before .before .before .before .before .before .loop .inv) (c .before .before .before .before .before .before .loop-test .taken) .1, c .before .before .before .before .before .before .before .before .head-bytes .ensures)
 
 mul-to : tie.Need-mul-to Inv-loop μ-loop
-mul-to c = omega (arith, laying-room (c .before .before .before .before .before .before .loop .inv) (c .before .before .before .before .before .loop-test .taken) .3)
+mul-to c = omega (arith, laying-room (c .before .before .before .before .before .before .before .loop .inv) (c .before .before .before .before .before .before .loop-test .taken) .3)
 
 add-to-2 : tie.Need-add-to-2 Inv-loop μ-loop
-add-to-2 c = omega (arith, laying-room (c .before .before .before .before .before .before .loop .inv) (c .before .before .before .before .before .loop-test .taken) .1)
+add-to-2 c = omega (arith, laying-room (c .before .before .before .before .before .before .before .loop .inv) (c .before .before .before .before .before .before .loop-test .taken) .1, c .before .before .before .before .before .before .before .before .head-bytes .ensures)
 
 add-i : tie.Need-add-i Inv-loop μ-loop
 add-i c = search needs
@@ -50,7 +56,7 @@ loop-less : tie.Need-loop-less Inv-loop μ-loop
 loop-less c = search needs
 
 loop-again : tie.Need-loop-again Inv-loop μ-loop
-loop-again c = laying-more (c .before .before .before .before .before .before .loop .inv) (c .before .before .before .before .before .loop-test .taken) refl (c .before .before .put-path .ensures)
+loop-again c = laying-more (c .before .before .before .before .before .before .before .loop .inv) (c .before .before .before .before .before .before .loop-test .taken) (c .before .before .before .before .before .before .before .before .head-bytes .ensures) refl (c .before .before .before .before .zone-of .ensures) (c .before .before .put-path .ensures)
 
 same-length : tie.Need-same-length Inv-loop μ-loop
 same-length c = c .before .loop .inv .long
@@ -64,9 +70,11 @@ put-paths-spec =
     (tie.spec
     Inv-loop
     μ-loop
+    head-bytes-requires
     loop-holds
     mul-h
     shared-slice-read-h
+    zone-of-requires
     mul-put-path
     add-put-path
     put-path-requires

@@ -16,7 +16,7 @@ enum-known-first : tie.Need-enum-known-first
 enum-known-first c = search needs
 
 body-requires : tie.Need-body-requires
-body-requires c κs = head-bodied (c .before .before .before .before .before .before .before .before .before .before .before .args .bytes .now) (c .before .before .before .before .first .given .1) (c .before .before .before .before .before .before .head .ensures)
+body-requires c κs = head-bodied 1 (c .before .before .before .before .before .before .before .before .before .before .before .args .bytes .now) (c .before .before .before .before .first .given .1) (c .before .before .before .before .before .before .head .ensures)
 
 enum-known-first-2 : tie.Need-enum-known-first-2
 enum-known-first-2 c = search needs
@@ -34,7 +34,7 @@ returns : tie.Need-returns
 returns c = c .before .before .before .before .before .before .body .ensures
 
 returns-2 : tie.Need-returns-2
-returns-2 c = let a = c .before .before .before .before .before .before .before .before .args in head-refused (a .bytes .now) (a .places .now) (a .counts .now) (a .targets .now) (c .before .first2 .given .1) (c .before .before .before .head .ensures)
+returns-2 c = let a = c .before .before .before .before .before .before .before .before .args in head-refused 1 (a .bytes .now) (a .places .now) (a .counts .now) (a .targets .now) (c .before .first2 .given .1) (c .before .before .before .head .ensures)
 
 pub read-spec : {M : Type 1} → statement M
 read-spec =

@@ -16,23 +16,23 @@ most-requires c κs = search needs
 array-borrow-prefix-ends : tie.Need-array-borrow-prefix-ends
 array-borrow-prefix-ends c = capped-most _ (c .most .ensures)
 
-slice-aggregate-bundle-survivors : tie.Need-slice-aggregate-bundle-survivors
-slice-aggregate-bundle-survivors c = sym (capped-length _ _ refl (c .before .most .ensures))
+slice-aggregate-bundle-three : tie.Need-slice-aggregate-bundle-three
+slice-aggregate-bundle-three c = sym (capped-length _ _ refl (c .before .most .ensures))
 
 array-borrow-prefix-hops : tie.Need-array-borrow-prefix-hops
 array-borrow-prefix-hops c = capped-most _ (c .before .most .ensures)
 
-slice-aggregate-bundle-survivors-2 : tie.Need-slice-aggregate-bundle-survivors-2
-slice-aggregate-bundle-survivors-2 c = sym (capped-length _ _ refl (c .before .before .most .ensures))
+slice-aggregate-bundle-three-2 : tie.Need-slice-aggregate-bundle-three-2
+slice-aggregate-bundle-three-2 c = sym (capped-length _ _ refl (c .before .before .most .ensures))
 
 array-borrow-prefix-wholes : tie.Need-array-borrow-prefix-wholes
 array-borrow-prefix-wholes c = capped-most _ (c .before .before .most .ensures)
 
-slice-aggregate-bundle-survivors-3 : tie.Need-slice-aggregate-bundle-survivors-3
-slice-aggregate-bundle-survivors-3 c = sym (capped-length _ _ refl (c .before .before .before .most .ensures))
+slice-aggregate-bundle-three-3 : tie.Need-slice-aggregate-bundle-three-3
+slice-aggregate-bundle-three-3 c = sym (capped-length _ _ refl (c .before .before .before .most .ensures))
 
-bundle-survivors-requires : tie.Need-bundle-survivors-requires
-bundle-survivors-requires c κs = search needs
+bundle-three-requires : tie.Need-bundle-three-requires
+bundle-three-requires c κs = search needs
 
 bundle-paths-requires : tie.Need-bundle-paths-requires
 bundle-paths-requires c κs = search needs
@@ -46,7 +46,7 @@ returns c =
     let m = v .before .before .before .before in
     let a = m .before .before .before .before .before .args in
     gathered (bundleAsked (kindOf (a .mesh .kind)) (a .mesh .size) (a .source) (a .target)) (bundle-few (a .mesh .kind) (a .mesh .size) (a .source) (a .target))
-    (a .places .now) (a .counts .now) (failed (a .stopped .now) (a .cuts .now)) (a .room) _ _ _ _ _ _ refl (m .most .ensures) (v .bundle-survivors .ensures) (λ e. bundle-many (kindOf (a .mesh .kind)) (a .mesh .size) (a .source) (a .target) (c .before .bundle-paths .ensures) e ∙ sym (length-replicate (meshOf (a .mesh .kind) (a .mesh .size) .links) (a .target))) (c .taken .ensures)
+    (a .places .now) (a .counts .now) (failed (a .stopped .now) (a .cuts .now)) (a .room) _ _ _ _ _ _ refl (m .most .ensures) (v .bundle-three .ensures) (λ e. bundle-many (kindOf (a .mesh .kind)) (a .mesh .size) (a .source) (a .target) (c .before .bundle-paths .ensures) e ∙ sym (length-replicate (meshOf (a .mesh .kind) (a .mesh .size) .links) (a .target))) (c .taken .ensures)
 
 pub gather-bundle-spec : {M : Type 1} → statement M
 gather-bundle-spec =
@@ -54,12 +54,12 @@ gather-bundle-spec =
     (tie.spec
     most-requires
     array-borrow-prefix-ends
-    slice-aggregate-bundle-survivors
+    slice-aggregate-bundle-three
     array-borrow-prefix-hops
-    slice-aggregate-bundle-survivors-2
+    slice-aggregate-bundle-three-2
     array-borrow-prefix-wholes
-    slice-aggregate-bundle-survivors-3
-    bundle-survivors-requires
+    slice-aggregate-bundle-three-3
+    bundle-three-requires
     bundle-paths-requires
     taken-requires
     returns)

@@ -20,10 +20,13 @@ same-length-2 c = search needs
 same-length-3 : tie.Need-same-length-3
 same-length-3 c = search needs
 
+same-length-4 : tie.Need-same-length-4
+same-length-4 c = search needs
+
 returns : tie.Need-returns
-returns c = let p = c .before .before .before .before .before .before .before .bundle-survivors .ensures in record { told = c .of-tally .ensures ∙ ap tallyIn (p .told); tally = _; left = p }
+returns c = let p = c .before .before .before .before .before .before .before .before .before .bundle-survivors .ensures in record { told = c .of-tally .ensures ∙ ap tallyIn (p .survived .told); tally = _; left = p }
 
 pub gust-bundle-survivors-spec : {M : Type 1} → statement M
 gust-bundle-survivors-spec =
     tie.close
-    (tie.spec bundle-survivors-requires of-tally-requires same-length same-length-2 same-length-3 returns)
+    (tie.spec bundle-survivors-requires of-tally-requires same-length same-length-2 same-length-3 same-length-4 returns)

@@ -7,7 +7,6 @@ use Rattle.host.proofs.routines.gust_survivors.Tie as tie
 use Rattle.host.proofs.routines.gust_survivors.Reads as reads
 use Rattle.host.proofs.routines.gust_survivors.Lts as lts
 use Rattle.shapes.proofs.of_tally.Reads as of-tally-reads
-use Rattle.survivors.proofs.survivors.Reads as survivors-reads
 
 survivors-requires : tie.Need-survivors-requires
 survivors-requires c κs = search needs
@@ -24,10 +23,13 @@ same-length-2 c = search needs
 same-length-3 : tie.Need-same-length-3
 same-length-3 c = search needs
 
+same-length-4 : tie.Need-same-length-4
+same-length-4 c = search needs
+
 returns : tie.Need-returns
-returns c = let p = c .before .before .before .before .before .before .before .survivors .ensures in record { told = c .of-tally .ensures ∙ ap tallyIn (p .told); tally = _; left = p }
+returns c = let p = c .before .before .before .before .before .before .before .before .before .survivors .ensures in record { told = c .of-tally .ensures ∙ ap tallyIn (p .survived .told); tally = _; left = p }
 
 pub gust-survivors-spec : {M : Type 1} → statement M
 gust-survivors-spec =
     tie.close
-    (tie.spec survivors-requires of-tally-requires same-length same-length-2 same-length-3 returns)
+    (tie.spec survivors-requires of-tally-requires same-length same-length-2 same-length-3 same-length-4 returns)

@@ -14,26 +14,26 @@ least-requires-2 c κs = search needs
 least-requires-3 : tie.Need-least-requires-3
 least-requires-3 c κs = search needs
 
-slice-relend-prefix-survivors : tie.Need-slice-relend-prefix-survivors
-slice-relend-prefix-survivors c = search needs
+slice-relend-prefix-three : tie.Need-slice-relend-prefix-three
+slice-relend-prefix-three c = search needs
 
-slice-aggregate-survivors : tie.Need-slice-aggregate-survivors
-slice-aggregate-survivors c = simp length-take (omega arith)
+slice-aggregate-three : tie.Need-slice-aggregate-three
+slice-aggregate-three c = simp length-take (omega arith)
 
-slice-relend-prefix-survivors-2 : tie.Need-slice-relend-prefix-survivors-2
-slice-relend-prefix-survivors-2 c = search needs
+slice-relend-prefix-three-2 : tie.Need-slice-relend-prefix-three-2
+slice-relend-prefix-three-2 c = search needs
 
-slice-aggregate-survivors-2 : tie.Need-slice-aggregate-survivors-2
-slice-aggregate-survivors-2 c = simp length-take (omega arith)
+slice-aggregate-three-2 : tie.Need-slice-aggregate-three-2
+slice-aggregate-three-2 c = simp length-take (omega arith)
 
-slice-relend-prefix-survivors-3 : tie.Need-slice-relend-prefix-survivors-3
-slice-relend-prefix-survivors-3 c = search needs
+slice-relend-prefix-three-3 : tie.Need-slice-relend-prefix-three-3
+slice-relend-prefix-three-3 c = search needs
 
-slice-aggregate-survivors-3 : tie.Need-slice-aggregate-survivors-3
-slice-aggregate-survivors-3 c = simp length-take (omega arith)
+slice-aggregate-three-3 : tie.Need-slice-aggregate-three-3
+slice-aggregate-three-3 c = simp length-take (omega arith)
 
-survivors-requires : tie.Need-survivors-requires
-survivors-requires c κs = search needs
+three-requires : tie.Need-three-requires
+three-requires c κs = search needs
 
 put-tally-requires : tie.Need-put-tally-requires
 put-tally-requires c κs = search needs
@@ -84,13 +84,13 @@ tell-spec =
     least-requires
     least-requires-2
     least-requires-3
-    slice-relend-prefix-survivors
-    slice-aggregate-survivors
-    slice-relend-prefix-survivors-2
-    slice-aggregate-survivors-2
-    slice-relend-prefix-survivors-3
-    slice-aggregate-survivors-3
-    survivors-requires
+    slice-relend-prefix-three
+    slice-aggregate-three
+    slice-relend-prefix-three-2
+    slice-aggregate-three-2
+    slice-relend-prefix-three-3
+    slice-aggregate-three-3
+    three-requires
     put-tally-requires
     slice-aggregate-text
     text-requires

@@ -50,7 +50,7 @@ same-length-3 : tie.Need-same-length-3
 same-length-3 c = search needs
 
 returns : tie.Need-returns
-returns c = let s = c .before .before .before .before .before .before .before .before .before .before .before .before .before .before .before .before .before .before in let a = s .args in judged-sheet (a .bytes .now) (a .mesh .kind) (a .mesh .size) (a .source) (a .longest) (a .k) (s .pre) (c .before .before .before .before .before .before .before .before .before .before .take-paths .ensures) (c .judge .ensures)
+returns c = let s = c .before .before .before .before .before .before .before .before .before .before .before .before .before .before .before .before .before .before in let a = s .args in judged-sheet (a .version) (a .bytes .now) (a .mesh .kind) (a .mesh .size) (a .source) (a .longest) (a .k) (s .pre) (c .before .before .before .before .before .before .before .before .before .before .take-paths .ensures) (c .judge .ensures)
 
 pub judged-in-spec : {M : Type 1} → statement M
 judged-in-spec =

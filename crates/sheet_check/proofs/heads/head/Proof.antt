@@ -16,7 +16,7 @@ use Rattle.octets.proofs.number.Reads as number-reads
 use Rattle.sheet_check.proofs.heads.counted.Reads as counted-reads
 
 returns : tie.Need-returns
-returns c = let l = c .before .before .args .bytes .now in ap (sheetTold l) (head-few l (c .if1 .taken))
+returns c = let a = c .before .before .args in let l = a .bytes .now in ap (sheetTold l) (head-few (a .version) l (c .if1 .taken))
 
 number-requires : tie.Need-number-requires
 number-requires c κs = search needs
@@ -25,25 +25,28 @@ sub-if2 : tie.Need-sub-if2
 sub-if2 c = search needs
 
 returns-2 : tie.Need-returns-2
-returns-2 c = let l = c .before .before .before .before .args .bytes .now in ap (sheetTold l) (head-long l (c .before .before .if1 .left) (c .before .number .ensures) (c .if2 .taken))
+returns-2 c = let a = c .before .before .before .before .args in let l = a .bytes .now in ap (sheetTold l) (head-long (a .version) l (c .before .before .if1 .left) (c .before .number .ensures) (c .if2 .taken))
 
 shared-slice-read-if3 : tie.Need-shared-slice-read-if3
 shared-slice-read-if3 c = search needs
 
+cast-if3 : tie.Need-cast-if3
+cast-if3 c = omega (arith, c .shared-slice-known2 .given 4)
+
 returns-3 : tie.Need-returns-3
-returns-3 c = let l = c .before .before .before .before .before .before .args .bytes .now in ap (sheetTold l) (head-version l (c .before .before .before .before .if1 .left) (c .before .before .before .number .ensures) (c .before .before .if2 .left) (c .if3 .taken))
+returns-3 c = let a = c .before .before .before .before .before .before .args in let l = a .bytes .now in ap (sheetTold l) (head-version (a .version) l (c .before .before .before .before .if1 .left) (c .before .before .before .number .ensures) (c .before .before .if2 .left) (c .if3 .taken))
 
-shared-slice-read-t11 : tie.Need-shared-slice-read-t11
-shared-slice-read-t11 c = search needs
+shared-slice-read-t12 : tie.Need-shared-slice-read-t12
+shared-slice-read-t12 c = search needs
 
-cast-t8 : tie.Need-cast-t8
-cast-t8 c = omega (arith, c .shared-slice-known3 .given 5)
+cast-t9 : tie.Need-cast-t9
+cast-t9 c = omega (arith, c .shared-slice-known3 .given 5)
 
-shared-slice-read-t15 : tie.Need-shared-slice-read-t15
-shared-slice-read-t15 c = search needs
+shared-slice-read-t16 : tie.Need-shared-slice-read-t16
+shared-slice-read-t16 c = search needs
 
-cast-t16 : tie.Need-cast-t16
-cast-t16 c = omega (arith, c .shared-slice-known4 .given 6)
+cast-t17 : tie.Need-cast-t17
+cast-t17 c = omega (arith, c .shared-slice-known4 .given 6)
 
 planned-requires : tie.Need-planned-requires
 planned-requires c κs = search needs
@@ -62,13 +65,13 @@ counted-requires c κs = sym (c .before .before .before .planned .ensures) ∙ c
 
 returns-4 : tie.Need-returns-4
 returns-4 c =
-    let l = c .before .before .before .before .before .before .before .before .before .before .before .before .before .args .bytes .now in
+    let a = c .before .before .before .before .before .before .before .before .before .before .before .before .before .args in let l = a .bytes .now in
     c .counted .ensures
     ∙ ap (λ (x : ℕ). tellRead (countAgainst (kindAt l) (meshAt l .links) (countAt l)) (kindAt l) (sizeAt l) x (countAt l)) (c .before .before .number2 .ensures)
-    ∙ ap (sheetTold l) (head-known l (c .before .before .before .before .before .before .before .before .before .before .before .if1 .left) (c .before .before .before .before .before .before .before .before .before .before .number .ensures) (c .before .before .before .before .before .before .before .before .before .if2 .left) (c .before .before .before .before .before .before .before .if3 .left) (c .before .before .before .before .planned .ensures) (c .before .before .before .if4 .taken))
+    ∙ ap (sheetTold l) (head-known (a .version) l (c .before .before .before .before .before .before .before .before .before .before .before .if1 .left) (c .before .before .before .before .before .before .before .before .before .before .number .ensures) (c .before .before .before .before .before .before .before .before .before .if2 .left) (c .before .before .before .before .before .before .before .if3 .left) (c .before .before .before .before .planned .ensures) (c .before .before .before .if4 .taken))
 
 returns-5 : tie.Need-returns-5
-returns-5 c = let l = c .before .before .before .before .before .before .before .before .before .before .args .bytes .now in ap (sheetTold l) (head-unknown l (c .before .before .before .before .before .before .before .before .if1 .left) (c .before .before .before .before .before .before .before .number .ensures) (c .before .before .before .before .before .before .if2 .left) (c .before .before .before .before .if3 .left) (c .before .planned .ensures) (c .if4 .left))
+returns-5 c = let a = c .before .before .before .before .before .before .before .before .before .before .args in let l = a .bytes .now in ap (sheetTold l) (head-unknown (a .version) l (c .before .before .before .before .before .before .before .before .if1 .left) (c .before .before .before .before .before .before .before .number .ensures) (c .before .before .before .before .before .before .if2 .left) (c .before .before .before .before .if3 .left) (c .before .planned .ensures) (c .if4 .left))
 
 pub head-spec : {M : Type 1} → statement M
 head-spec =
@@ -79,11 +82,12 @@ head-spec =
     sub-if2
     returns-2
     shared-slice-read-if3
+    cast-if3
     returns-3
-    shared-slice-read-t11
-    cast-t8
-    shared-slice-read-t15
-    cast-t16
+    shared-slice-read-t12
+    cast-t9
+    shared-slice-read-t16
+    cast-t17
     planned-requires
     number-requires-2
     shared-slice-read-counted

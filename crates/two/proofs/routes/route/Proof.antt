@@ -1,10 +1,10 @@
 -- `two::routes::route` meets its contract. Assumes nothing.
-use Prim.Native.Nat.{ℕ, _+_, _≤_, _<_}
-use mathlib.Core.Path.{ap, _∙_, subst}
+use Prim.Native.Nat.{ℕ, _+_}
+use mathlib.Core.Path.{sym, ap, _∙_}
 use mathlib.Core.Bool.{Bool}
 use mathlib.Core.List.{List, _++_}
 use borrow.Author.Needs.{needs}
-use borrow.Author.Tests.{le-leb, lt-leb}
+use borrow.Author.Tests.{leb-false}
 use lib.Dec.{leb}
 use lib.ListN.{length, drop}
 use Rattle.answers.specs.Order.{Fault, pairFaults}
@@ -41,8 +41,8 @@ clear c =
     let a = c .before .before .before .before .args in
     fine (a .order .0) (a .source) (a .target) (c .enum-told .given .1) (c .before .before .checked .ensures)
 
-hops-requires : tie.Need-hops-requires
-hops-requires c κs = clear c
+short-requires : tie.Need-short-requires
+short-requires c κs = clear c
 
 returns : tie.Need-returns
 returns c =
@@ -51,30 +51,32 @@ returns c =
     let out = a .out .now in
     lent-short (pair m (a .source) (a .target)) (short m (a .source) (a .target) out) (hops m (a .source) (a .target)) out (routed m (a .source) (a .target) out)
     (c .before .before .before .before .checked .ensures) (c .before .before .enum-told .given .1)
-    (le-leb (length out) (hops m (a .source) (a .target)) (subst (λ (n : ℕ). length out ≤ n) (c .before .hops .ensures) (c .if1 .taken)))
+    (sym (c .before .short .ensures) ∙ c .if1 .taken)
 
-write-requires : tie.Need-write-requires
-write-requires c κs = record { fine = clear (c .before .before .before); all = c .before .before .hops .ensures; room = c .before .if1 .left }
+walk-requires : tie.Need-walk-requires
+walk-requires c κs =
+    let a = c .before .before .before .before .before .before .before .args in
+    record {
+      fine = clear (c .before .before .before);
+      room = leb-false (length (a .out .now)) (hops (a .order .0) (a .source) (a .target)) (sym (c .before .before .short .ensures) ∙ c .before .if1 .left);
+    }
 
 enum-known-why : tie.Need-enum-known-why
 enum-known-why c = search needs
 
 same-length : tie.Need-same-length
-same-length c = c .before .before .write .kept .1 .1 .1 .1 .0
+same-length c = c .before .before .walk .kept .1 .1 .1 .0
 
 returns-2 : tie.Need-returns-2
 returns-2 c =
     let a = c .before .before .before .before .before .before .before .before .before .before .args in
-    let n = c .before .before .before .before .before .hops .ensures in
+    let w = c .before .before .walk .ensures in
     let m = a .order .0 in
     let out = a .out .now in
     let told-and-left = lent-fine (pair m (a .source) (a .target)) (short m (a .source) (a .target) out) (hops m (a .source) (a .target)) out (routed m (a .source) (a .target) out)
     (c .before .before .before .before .before .before .before .before .checked .ensures) (c .before .before .before .before .before .before .enum-told .given .1)
-    (lt-leb (length out) (hops m (a .source) (a .target)) (subst (λ (n : ℕ). n < length out) n (c .before .before .before .before .if1 .left))) in (
-      ap (told 0 0) n ∙ told-and-left .0,
-      c .before .before .write .ensures
-          ∙ ap (λ (k : ℕ). route (a .order .0) (a .source) (a .target) ++ drop (k + 1) (a .out .now)) n ∙ told-and-left .1,
-    )
+    (sym (c .before .before .before .before .before .short .ensures) ∙ c .before .before .before .before .if1 .left) in
+    (ap (told 0 0) (w .0) ∙ told-and-left .0, w .1 ∙ told-and-left .1)
 
 returns-3 : tie.Need-returns-3
 returns-3 c =
@@ -85,4 +87,4 @@ returns-3 c =
     (c .before .before .before .checked .ensures) (c .before .why .given .1)
 
 pub route-spec : {M : Type 1} → statement M
-route-spec = tie.close (tie.spec checked-requires enum-told hops-requires returns write-requires enum-known-why same-length returns-2 returns-3)
+route-spec = tie.close (tie.spec checked-requires enum-told short-requires returns walk-requires enum-known-why same-length returns-2 returns-3)

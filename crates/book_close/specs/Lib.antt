@@ -1,0 +1,2 @@
+-- Books closed up, as loops do it.
+pub mod Slides

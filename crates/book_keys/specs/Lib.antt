@@ -1,0 +1,2 @@
+-- Why a key is found where it should be.
+pub mod Cases

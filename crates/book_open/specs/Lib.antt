@@ -1,0 +1,7 @@
+-- A book opened again.
+pub mod Needs
+pub mod Pieces
+pub mod Enters
+pub mod Opens
+pub mod Keeps
+pub mod Restart

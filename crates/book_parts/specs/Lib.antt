@@ -1,0 +1,3 @@
+-- A lent index searched and moved.
+pub mod Place
+pub mod Moved

@@ -1,0 +1,2 @@
+-- What the structs of a book that C is given say.
+pub mod Shapes

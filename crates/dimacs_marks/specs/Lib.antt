@@ -1,0 +1,2 @@
+-- The links of a mesh marked one by one.
+pub mod Marks

@@ -1,0 +1,2 @@
+-- How many bytes the text of a mesh takes.
+pub mod Sizes

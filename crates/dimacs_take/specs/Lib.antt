@@ -1,0 +1,2 @@
+-- The lines of a graph file as code takes them.
+pub mod Takes

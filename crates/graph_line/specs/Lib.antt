@@ -1,0 +1,2 @@
+-- The line that names a mesh.
+pub mod Names

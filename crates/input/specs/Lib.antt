@@ -1,0 +1,3 @@
+-- What came of standard input, and its buffers.
+pub mod Says
+pub mod Buffers
