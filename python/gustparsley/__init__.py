@@ -13,9 +13,10 @@ A path is a list of relays, its source first. A refusal is the exception `Refuse
 
 Numbers are those of docs/ROUTINES.md; every answer is the library's own.
 """
+from .book import Book
 from .errors import Finding, Refused
 from .mesh import Entry, Mesh, Survivors
 from .record import Arrival, Record
 from .sheet import Sheet
 
-__all__ = ["Arrival", "Entry", "Finding", "Mesh", "Record", "Refused", "Sheet", "Survivors"]
+__all__ = ["Arrival", "Book", "Entry", "Finding", "Mesh", "Record", "Refused", "Sheet", "Survivors"]

@@ -32,7 +32,19 @@ class _Reading(ctypes.Structure):
 
 
 class _Zoned(ctypes.Structure):
-    _fields_ = [(name, _u64) for name in ("number", "path", "place", "version", "kind", "size", "source", "paths")]
+    _fields_ = [(name, _u64) for name in ("number", "path", "place", "kind", "size", "source", "paths", "version")]
+
+
+class _Book(ctypes.Structure):
+    _fields_ = [("used", _size), ("entries", _size)]
+
+
+class _Booked(ctypes.Structure):
+    _fields_ = [("number", _u64), ("path", _u64), ("place", _u64), ("book", _Book)]
+
+
+class _Found(ctypes.Structure):
+    _fields_ = [(name, _u64) for name in ("number", "start", "length")]
 
 
 class _Record(ctypes.Structure):
@@ -56,9 +68,9 @@ def _found() -> str:
     return "libgustparsley.so"
 
 
-_ARGUMENT = {"n": [_u64], "w": [ctypes.POINTER(_u64), _size], "b": [ctypes.POINTER(ctypes.c_uint8), _size], "d": [ctypes.POINTER(ctypes.c_uint32), _size]}
+_ARGUMENT = {"h": [_Book], "n": [_u64], "w": [ctypes.POINTER(_u64), _size], "b": [ctypes.POINTER(ctypes.c_uint8), _size], "d": [ctypes.POINTER(ctypes.c_uint32), _size]}
 
-# What each call is lent, by a letter for each argument (n a number, w words, b bytes, d words of 32 bits), and what it gives back.
+# What each call is lent, by a letter for each argument (h a book's head, n a number, w words, b bytes, d words of 32 bits), and what it gives back.
 _CALLS = {
     "gust_facts": ("nn", _Facts),
     "gust_linked": ("nnnn", _Answer),
@@ -78,6 +90,12 @@ _CALLS = {
     "gust_read_zoned_sheet": ("bwwwd", _Zoned),
     "gust_sheet_to_2": ("bb", _Answer),
     "gust_sheet_to_1": ("bb", _Answer),
+    "gust_write_graph": ("nnb", _Answer),
+    "gust_book_add": ("hbwb", _Booked),
+    "gust_book_find": ("hbwnnn", _Found),
+    "gust_book_remove": ("hbwnnn", _Booked),
+    "gust_book_close": ("hbw", _Book),
+    "gust_book_open": ("bw", _Booked),
 }
 
 

@@ -261,6 +261,18 @@ class Mesh:
         graph.add_edges_from((u, v) for u in range(self.relays) for v in self.neighbours(u) if u < v)
         return graph
 
+    def to_dimacs(self) -> str:
+        """The mesh as a DIMACS edge file, for cubes of up to 11 dimensions and orders 1 to 3.
+
+        >>> Mesh.cube(2).to_dimacs().splitlines()
+        ['p edge 4 4', 'e 1 2', 'e 1 3', 'e 2 4', 'e 3 4']
+        """
+        out = octets(123009)
+        answer = ask("gust_write_graph", self.kind, self.size, out)
+        if answer.number:
+            self._refuse(answer)
+        return bytes(out[0][: answer.value]).decode("ascii")
+
     def parts(self, relay: int) -> dict[str, int]:
         """Where a relay stands: block and slot in a two-level mesh, the class in a metacube, nothing in a cube.
 

@@ -266,6 +266,13 @@ def book_remove(given: argparse.Namespace) -> tuple[dict, list[str]]:
     return {"sheets": len(book)}, [f"{given.book}: {len(book)} sheets"]
 
 
+def book_close(given: argparse.Namespace) -> tuple[dict, list[str]]:
+    book = book_in(given.book)
+    book.close()
+    write(given.book, book.used)
+    return {"bytes": len(book.used), "sheets": len(book)}, [f"{given.book}: {len(book)} sheets, {len(book.used)} bytes"]
+
+
 def book_list(given: argparse.Namespace) -> tuple[dict, list[str]]:
     book = book_in(given.book)
     sheets = [Sheet.read(data) for data in book.sheets()]
@@ -320,7 +327,7 @@ def parser() -> argparse.ArgumentParser:
     one.add_argument("--cuts", type=pairs, default=[], metavar="U-V,..", help="links that are cut")
 
     books = commands.add_parser("book", help="keep sheets in a book", description="A book keeps sheets in one file, one for each mesh and source.").add_subparsers(title="commands", metavar="COMMAND", required=True)
-    for name, do, words in (("new", book_new, "begin an empty book"), ("list", book_list, "list the sheets of a book")):
+    for name, do, words in (("new", book_new, "begin an empty book"), ("list", book_list, "list the sheets of a book"), ("close", book_close, "close a book up over its removed sheets")):
         command(books, name, do, words).add_argument("book", metavar="BOOK")
     one = command(books, "add", book_add, "add a sheet to a book")
     one.add_argument("book", metavar="BOOK")
