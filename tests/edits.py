@@ -2,7 +2,7 @@
 """What the gate's edits were refused for: each wrong answer by a fact of its own function.
 
 An edit of crates/*/must-fail may hold several wrong answers, each in a function of its own, so that a crate is proved again once for all of them. Each begins with a line
-`# NAME: what is wrong`, and `fn:` names the function that it changes. The gate asks only that the crate is refused; this asks of what the prover said then, which the gate leaves under
+`# NAME: what is wrong`, and `fn:` names the function that it changes. An edit with no `fn:` changes a constant, a definition or two functions at once: of such a one no more is asked than the gate does. The gate asks only that the crate is refused; this asks of what the prover said then, which the gate leaves under
 target/must-fail, that every function named was refused for itself: not because a function that it calls was, and not because its proof no longer fits its text.
 """
 import pathlib
@@ -34,7 +34,7 @@ def refused(function, log):
 
 
 def main():
-    wrong = runs = 0
+    wrong = runs = whole = 0
     faults = []
     for edit in sorted(pathlib.Path("crates").glob("*/must-fail/*.edit")):
         crate, name = edit.parts[1], edit.stem
@@ -50,10 +50,11 @@ def main():
         for function in functions:
             if refused(function, log) is None:
                 faults.append(f"{crate}/{name}: {function} is not refused by a fact of its own")
-        wrong += max(1, len(functions))
+        wrong += len(functions)
+        whole += not functions
     for fault in faults:
         print(f"edits: {fault}")
-    print(f"edits: {wrong} wrong answers in {runs} edits, each refused for itself" if not faults else f"edits: {len(faults)} of them are not as they must be")
+    print(f"edits: {wrong} wrong answers in {runs - whole} edits, each function refused for itself; {whole} edits of constants and definitions refused as a whole" if not faults else f"edits: {len(faults)} of them are not as they must be")
     return 1 if faults else 0
 
 

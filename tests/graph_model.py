@@ -233,7 +233,8 @@ def programs(graph, check):
 def diameter(kind, size):
     mesh, worst = mesh_of(kind, size), 0
     ways = [near(mesh, kind, size, u) for u in range(mesh.relays)]
-    for start in range(mesh.relays) if kind == 2 and size < 3 or kind == 1 and size < 7 else (random.Random(kind).randrange(mesh.relays) for _ in range(2)) if kind == 1 else range(mesh.relays):
+    # every relay of a cube sees the same mesh, so that of the larger ones one start tells it
+    for start in range(mesh.relays) if kind == 2 or size < 7 else (0,):
         hops, queue = {start: 0}, collections.deque([start])
         while queue:
             u = queue.popleft()
