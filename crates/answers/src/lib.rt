@@ -3,7 +3,7 @@ ghost use Rattle.std.specs.Prelude.{◌≡◌};
 ghost use Rattle.answers.specs.Told as specs;
 
 // Why a request is refused. A reason that is about one target has its place in the list of targets, from 0.
-#[derive(Drop)]
+#[derive(Clone, Copy)]
 pub enum Refusal {
     // 10: a request line that cannot be read, or target bytes that are no multiple of 8.
     Unreadable,
@@ -40,14 +40,14 @@ pub enum Refusal {
 }
 
 // A number, or a refusal.
-#[derive(Drop)]
+#[derive(Clone, Copy)]
 pub enum Answer {
     Value(u64),
     Refused(Refusal),
 }
 
 // Yes, no, or a refusal.
-#[derive(Drop)]
+#[derive(Clone, Copy)]
 pub enum YesNo {
     Yes,
     No,
@@ -55,7 +55,7 @@ pub enum YesNo {
 }
 
 // Nothing against it, or the first thing that is.
-#[derive(Drop)]
+#[derive(Clone, Copy)]
 pub enum Checked {
     Fine,
     Refused(Refusal),

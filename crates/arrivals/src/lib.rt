@@ -4,14 +4,14 @@ ghost use Rattle.arrivals.specs.Says as specs;
 
 // The newest number, and marks: bit e says whether the number e before the newest was passed. No marks, no frame yet: a fresh record.
 #[repr(C)]
-#[derive(Drop)]
+#[derive(Clone, Copy)]
 pub struct Record {
     pub newest: u16,
     pub marks: u64,
 }
 
 // What becomes of a number, with the record afterwards. A refusal holds the record as it was.
-#[derive(Drop)]
+#[derive(Clone, Copy)]
 pub enum Arrival {
     // 0: the frame is passed.
     Passed(Record),

@@ -6,14 +6,14 @@ use sheet::Flaw;
 
 // How many bytes are in use, removed sheets counted, and how many places of the index. An empty book is 0, 0, over any slices.
 #[repr(C)]
-#[derive(Drop)]
+#[derive(Clone, Copy)]
 pub struct Book {
     pub used: usize,
     pub entries: usize,
 }
 
 // What becomes of a sheet that is to be added, with the head afterwards. A refusal changes nothing.
-#[derive(Drop)]
+#[derive(Clone, Copy)]
 pub enum Added {
     // 0
     Done(Book),
@@ -28,7 +28,7 @@ pub enum Added {
 }
 
 // Where a sheet is.
-#[derive(Drop)]
+#[derive(Clone, Copy)]
 pub enum Found {
     // its start and its length
     At(usize, usize),
@@ -37,7 +37,7 @@ pub enum Found {
 }
 
 // Where a sheet is, with its place in the index.
-#[derive(Drop)]
+#[derive(Clone, Copy)]
 pub enum Sought {
     // place, start and length
     At(usize, usize, usize),
@@ -45,7 +45,7 @@ pub enum Sought {
 }
 
 // What becomes of a sheet that is to be removed, with the head afterwards. A refusal changes nothing.
-#[derive(Drop)]
+#[derive(Clone, Copy)]
 pub enum Removed {
     // 0
     Done(Book),
@@ -54,7 +54,7 @@ pub enum Removed {
 }
 
 // What becomes of bytes that are to be opened as a book, with its head.
-#[derive(Drop)]
+#[derive(Clone, Copy)]
 pub enum Opened {
     // 0
     Done(Book),
@@ -65,7 +65,7 @@ pub enum Opened {
 }
 
 // What becomes of one piece of them.
-#[derive(Drop)]
+#[derive(Clone, Copy)]
 pub enum Entered {
     // how many places the index has then
     More(usize),

@@ -6,7 +6,7 @@ use book::{Added, Book, Found, Opened, Removed};
 
 // What becomes of a book: the head to keep is the one before, where it is refused.
 #[repr(C)]
-#[derive(Drop)]
+#[derive(Clone, Copy)]
 pub struct GustBooked {
     pub number: u64,
     pub path: u64,
@@ -16,7 +16,7 @@ pub struct GustBooked {
 
 // Where a sheet starts and how long it is.
 #[repr(C)]
-#[derive(Drop)]
+#[derive(Clone, Copy)]
 pub struct GustFound {
     pub number: u64,
     pub start: u64,

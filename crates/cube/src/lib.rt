@@ -1,4 +1,6 @@
 // The plain cube: relays are the numbers below 2^n, and two are linked when they differ in exactly one bit.
+#![tactic(auto)]
+
 mod plain;
 
 ghost use Rattle.std.specs.Prelude.{◌≡◌, false, ◌+◌, ◌^◌, ◌<◌};
@@ -10,7 +12,7 @@ use answers::{Answer, Checked, Refusal, YesNo};
 pub use plain::{next_hop, route};
 
 // How many dimensions a cube has. Every number can be asked; what is not from 1 to 32 is refused by each routine.
-#[derive(Drop)]
+#[derive(Clone, Copy)]
 pub struct Size(pub u64);
 
 impl Size {

@@ -7,7 +7,7 @@ use cube::Size;
 use script::{item, put, put_first, run, text};
 
 // What is asked.
-#[derive(Drop)]
+#[derive(Clone, Copy)]
 struct Request {
     size: Size,
     source: u64,

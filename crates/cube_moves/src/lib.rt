@@ -1,5 +1,7 @@
 // The steps of the planner of a fan through doors, in a grid (crate `cube_rows`) whose rows hold their targets. Sets of dimensions and of rows are masks.
 // Inner: its functions are called by the planner, which meets their `requires`.
+#![tactic(auto)]
+
 ghost use Rattle.std.specs.Prelude.{◌≡◌, [], ◌∷◌, ◌≢◌, ℕ, ◌+◌, ◌*◌, ◌<◌, ◌≤◌, length};
 ghost use Rattle.std.specs.Int.Count.{ones};
 ghost use Rattle.bits.specs.Bit as bb;
@@ -27,7 +29,7 @@ fn door(s: u64, doors: u64, t: u64) -> u64
 }
 
 // The rows that are left, and the doors that are shut.
-#[derive(Drop)]
+#[derive(Clone, Copy)]
 pub struct Sorted {
     pub left: u64,
     pub more: u64,
@@ -207,7 +209,7 @@ fn stand_in(rest: u64, f: u64, shut: u64, far: u64, home: u64, w: usize, grid: &
 
 // What is asked on the two sides of the dimension b: `rest` the dimensions but b, f = s^b, `low` the doors shut but b, the rows on the far side, and
 // the one of f.
-#[derive(Drop)]
+#[derive(Clone, Copy)]
 pub struct Cut {
     pub b: u32,
     pub rest: u64,
@@ -265,7 +267,7 @@ fn bring_one(b: u32, f: u64, j: usize, w: usize, grid: &mut [u64]) -> u64
 }
 
 // The rows that are left, and the doors that are used.
-#[derive(Drop)]
+#[derive(Clone, Copy)]
 pub struct Taken {
     pub todo: u64,
     pub used: u64,

@@ -1,5 +1,7 @@
 // Paths in a grid of rows of w places: how many relays the row's path has after its source, and at the row's end these, the target last.
 // Inner: its functions are called by the planner's crates, which meet their `requires`.
+#![tactic(auto)]
+
 ghost use Rattle.std.specs.Prelude.{◌≡◌, List, [], ◌∷◌, ℕ, ◌+◌, ◌*◌, ◌^◌, ◌<◌, ◌≤◌, length};
 ghost use Rattle.cube_math.specs.Masks as masks;
 ghost use Rattle.cube_rows.specs.Grid as specs;

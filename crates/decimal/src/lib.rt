@@ -6,7 +6,7 @@ pub use reading::read;
 pub use writing::put;
 
 // A number that stands in a text, and the place after its last digit; or none that can be read.
-#[derive(Drop)]
+#[derive(Clone, Copy)]
 pub enum Number {
     Got(u64, usize),
     Bad,

@@ -6,7 +6,7 @@ ghost use Rattle.decimal.specs.Read.{Read, longer_of, longer_fits};
 use crate::Number;
 
 // A number with one digit more, or one of 2^64 or more.
-#[derive(Drop)]
+#[derive(Clone, Copy)]
 enum Longer {
     To(u64),
     Over,

@@ -15,7 +15,7 @@ pub const MOST_RELAYS: u64 = 2048;
 pub const MOST_BYTES: usize = 123009;
 
 // What a file is, asked whether it is a mesh.
-#[derive(Drop)]
+#[derive(Clone, Copy)]
 pub enum Verdict {
     // 0: it is the mesh, with each link once.
     Yes,

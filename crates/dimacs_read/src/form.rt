@@ -6,14 +6,14 @@ ghost use Rattle.dimacs_read.specs.Forms as forms;
 use dimacs_take::Piece;
 
 // The place after a line; whether there was a `p` line up to it, and its counts. Or a line that is malformed.
-#[derive(Drop)]
+#[derive(Clone, Copy)]
 enum Step {
     To(usize, bool, u64, u64),
     Bad,
 }
 
 // What the lines come to: a malformed one, from 1; no `p` line; or the counts in it.
-#[derive(Drop)]
+#[derive(Clone, Copy)]
 pub enum Form {
     Malformed(usize),
     Headless,

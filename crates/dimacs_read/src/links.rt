@@ -13,7 +13,7 @@ use mesh::Mesh;
 use scan::Spot;
 
 // The place after a line that is right; one that is wrong; or no more lines.
-#[derive(Drop)]
+#[derive(Clone, Copy)]
 enum Turn {
     To(usize),
     Wrong,

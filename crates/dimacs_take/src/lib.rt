@@ -7,14 +7,14 @@ use line_take::Field;
 use scan::Spot;
 
 // Two numbers and the place after their line, or what is no such line.
-#[derive(Drop)]
+#[derive(Clone, Copy)]
 enum Pair {
     Of(u64, u64, usize),
     Bad,
 }
 
 // A line, and the place after it.
-#[derive(Drop)]
+#[derive(Clone, Copy)]
 pub enum Piece {
     Comment(usize),
     Counts(u64, u64, usize),

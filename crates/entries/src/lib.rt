@@ -15,7 +15,7 @@ use survivors::Tally;
 
 // One path of a fan or a bundle: its target, its hops, whether it is whole, and its zone, which is lent in.
 #[repr(C)]
-#[derive(Drop)]
+#[derive(Clone, Copy)]
 pub struct Entry {
     pub target: u64,
     pub hops: u64,

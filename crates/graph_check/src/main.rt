@@ -8,7 +8,7 @@ use scan::Spot;
 const MOST: usize = 262144;
 
 // What is said: 0 for yes, or a number and a line.
-#[derive(Drop)]
+#[derive(Clone, Copy)]
 struct Said {
     number: u64,
     line: u64,

@@ -7,7 +7,7 @@ use line_take::Fields;
 use mesh::Mesh;
 
 // The kind and size that a line names, or that it names none.
-#[derive(Drop)]
+#[derive(Clone, Copy)]
 pub enum Named {
     Of(u64, u64),
     Unreadable,

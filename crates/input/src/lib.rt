@@ -5,7 +5,7 @@ ghost use Rattle.line.specs.Text.{most_bytes};
 ghost use Rattle.input.specs.Says.{is_end, Came, CameAll};
 
 // How many bytes came, and whether the input has ended: the last read gave none.
-#[derive(Drop)]
+#[derive(Clone, Copy)]
 pub struct Input {
     pub bytes: usize,
     pub ended: bool,

@@ -13,7 +13,7 @@ use judge_rows::{Mode, Rules};
 use mesh::Mesh;
 
 // What is wrong with a path: its number, counted from 0, and for most findings a place of it.
-#[derive(Drop)]
+#[derive(Clone, Copy)]
 pub enum Finding {
     // 20: more hops than a path may have.
     TooLong(usize),
@@ -31,14 +31,14 @@ pub enum Finding {
 }
 
 // What the look at a path ends with.
-#[derive(Drop)]
+#[derive(Clone, Copy)]
 enum Search {
     Clean,
     Found(Finding),
 }
 
 // Nothing is found (it is the fan or the bundle that was asked for), or the first finding, or a refusal.
-#[derive(Drop)]
+#[derive(Clone, Copy)]
 pub enum Verdict {
     Fan,
     Found(Finding),

@@ -12,14 +12,14 @@ use paths::FILLER;
 use scan::Spot;
 
 // What a set of paths is to be: a fan, with paths from one source to each of its targets, or a bundle, with as many paths as links to one.
-#[derive(Drop)]
+#[derive(Clone, Copy)]
 pub enum Mode {
     Fan,
     Bundle,
 }
 
 // What paths are judged by: the mesh, what they are to be, and the places that a path takes.
-#[derive(Drop)]
+#[derive(Clone, Copy)]
 pub struct Rules {
     pub mesh: Mesh,
     pub mode: Mode,

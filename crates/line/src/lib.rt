@@ -6,7 +6,7 @@ use mesh::Mesh;
 pub const MOST_BYTES: usize = 1024;
 
 // What a line asks for: a fan in a mesh, from a source to so many targets.
-#[derive(Drop)]
+#[derive(Clone, Copy)]
 pub struct Asked {
     pub mesh: Mesh,
     pub source: u64,
@@ -14,7 +14,7 @@ pub struct Asked {
 }
 
 // A request, or why there is none: 10 for a line that cannot be read, 8 for more targets than there are places for.
-#[derive(Drop)]
+#[derive(Clone, Copy)]
 pub enum Line {
     Request(Asked),
     Refused(Refusal),

@@ -11,7 +11,7 @@ use line_take::{Fields, Word};
 use mesh::Mesh;
 
 // A kind, and how many targets.
-#[derive(Drop)]
+#[derive(Clone, Copy)]
 enum Parsed {
     Of(u64, usize),
     Nothing,

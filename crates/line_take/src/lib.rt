@@ -7,7 +7,7 @@ use decimal::Number;
 use mesh::Mesh;
 
 // What stands next: a number after a space, with the place after it; the line end; or what no line has there.
-#[derive(Drop)]
+#[derive(Clone, Copy)]
 pub enum Field {
     Item(u64, usize),
     End,
@@ -15,14 +15,14 @@ pub enum Field {
 }
 
 // How many numbers there are up to the line end.
-#[derive(Drop)]
+#[derive(Clone, Copy)]
 pub enum Fields {
     Count(usize),
     Broken,
 }
 
 // The kind that the first word names, and the place after the word.
-#[derive(Drop)]
+#[derive(Clone, Copy)]
 pub enum Word {
     Of(u64, usize),
     Other,

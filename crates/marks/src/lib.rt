@@ -1,5 +1,7 @@
 // Marks of relays, in 256 words that the caller keeps: each relay that is put has two bits of one word set. A relay without its mark was not put; one with it may
 // have been, and is looked for. Inner: called by other crates of the library, which meet the `requires`.
+#![tactic(auto)]
+
 ghost use Rattle.std.specs.Prelude.{◌≡◌, ◌<◌, length};
 ghost use Rattle.marks.specs.Marks as specs;
 

@@ -21,7 +21,7 @@ use two::Order;
 
 // A kind, 1 the plain cube, 2 the two-level mesh and 3 the metacube, and a size: the dimensions of a cube, the order of a two-level mesh, of a metacube k·64 + m. Every
 // two numbers can be asked; what is no mesh is refused by each routine.
-#[derive(Drop)]
+#[derive(Clone, Copy)]
 pub struct Mesh {
     pub kind: u64,
     pub size: u64,
@@ -40,7 +40,7 @@ pub const MOST_PLACES: usize = 1242;
 pub const MOST_BYTES: usize = 9916;
 
 // What is asked of a size.
-#[derive(Drop)]
+#[derive(Clone, Copy)]
 enum Fact {
     Relays,
     Links,

@@ -9,7 +9,7 @@ use script::{item, put, put_first, run, text};
 use survivors::Tally;
 
 // How many places the columns have.
-#[derive(Drop)]
+#[derive(Clone, Copy)]
 struct Room {
     ends: usize,
     hops: usize,

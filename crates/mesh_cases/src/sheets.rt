@@ -8,7 +8,7 @@ use script::{item, least, put, put_first, run, text};
 use sheet::Reading;
 
 // How many places are lent.
-#[derive(Drop)]
+#[derive(Clone, Copy)]
 struct Room {
     places: usize,
     counts: usize,

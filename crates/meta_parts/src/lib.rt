@@ -1,5 +1,7 @@
 // Metacubes: their sizes, a relay's class, and links. Inner: each function but the facts of a size is called by other crates of the library, which
 // meet its `requires`; users call `meta`.
+#![tactic(auto)]
+
 mod links;
 mod sizes;
 

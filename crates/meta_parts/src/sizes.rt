@@ -8,7 +8,7 @@ use answers::{Answer, Refusal};
 
 // The size of a metacube, k·64 + m for k class bits and parts of m bits: 130 has 2 class bits and four parts of 2 bits. Every number can be asked; what is
 // no size is refused by each routine.
-#[derive(Drop)]
+#[derive(Clone, Copy)]
 pub struct Metacube(pub u64);
 
 impl Metacube {

@@ -1,4 +1,6 @@
 // Numbers as bytes in a slice, the highest byte first. Inner: callers meet each `requires`.
+#![tactic(auto)]
+
 ghost use Rattle.std.specs.Prelude.{◌≡◌, ◌+◌, ◌≤◌, length};
 ghost use Rattle.std.proofs.lemmas.List.Edits.{sets};
 ghost use Rattle.octets.specs.Big.{big, number};

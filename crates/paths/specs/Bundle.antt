@@ -159,7 +159,7 @@ module _ (m : Mesh) (near : ℕ → ℕ → ℕ) (k : Links m near) (s t : ℕ) 
             let ends : end i ≡ t = ap end same ∙ home in
             let c = subst (λ (w : ℕ). Chain m s w (t ∷ r)) ends (subst (λ (l : List ℕ). Chain m s (end i) l) z (way i h)) in
             let fr = subst (λ (l : List ℕ). Fresh (s ∷ l)) z (f.fresh i (counted i h)) in
-            (ends, z ∙ ap (λ (l : List ℕ). t ∷ l) (arrived r (record { chain = c.2; fresh = fr })))
+            (ends, z ∙ ap (λ (l : List ℕ). t ∷ l) (arrived {m = m} r (record { chain = c.2; fresh = fr })))
 
     -- the paths with t after them
     abbrev to : ℕ → List ℕ

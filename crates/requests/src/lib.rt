@@ -1,4 +1,6 @@
 // What stands against a request: the reasons 2 to 7, in their order; and against two ends: 2, 5, 6.
+#![tactic(auto)]
+
 ghost use Rattle.std.specs.Prelude.{◌≡◌};
 ghost use Rattle.answers.specs.Told.{against};
 ghost use Rattle.answers.specs.Order.{first, end_faults, request_faults, target_faults, first_at, is_out, is_same, is_again};

@@ -1,11 +1,13 @@
 // Runs of numbers searched, filled, and moved. Inner: called by other crates of the library, which meet the `requires`.
+#![tactic(auto)]
+
 ghost use Rattle.std.specs.Prelude.{◌≡◌, ◌+◌, ◌≤◌, length, replicate};
 ghost use Rattle.std.proofs.lemmas.List.Edits.{sets};
 ghost use Rattle.scan.specs.Runs.{Shifted};
 ghost use Rattle.scan.specs.Scan as specs;
 
 // Where a test first holds, or that it holds nowhere.
-#[derive(Drop)]
+#[derive(Clone, Copy)]
 pub enum Spot {
     At(usize),
     Nowhere,

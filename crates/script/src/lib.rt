@@ -6,7 +6,7 @@ use answers::{Answer, YesNo};
 // What the letter F stands for: 2^64 - 1.
 pub const FILLER: u64 = 18446744073709551615;
 
-#[derive(Drop)]
+#[derive(Clone, Copy)]
 struct Word {
     value: u64,
     end: usize,

@@ -17,7 +17,7 @@ use survivors::Tally;
 
 // One value: hops, a distance, 1 or 0 for yes or no, how many paths are planned or are whole, how many bytes were written.
 #[repr(C)]
-#[derive(Drop)]
+#[derive(Clone, Copy)]
 pub struct GustAnswer {
     pub number: u64,
     pub path: u64,
@@ -27,7 +27,7 @@ pub struct GustAnswer {
 
 // The facts of a size.
 #[repr(C)]
-#[derive(Drop)]
+#[derive(Clone, Copy)]
 pub struct GustFacts {
     pub number: u64,
     pub path: u64,
@@ -40,7 +40,7 @@ pub struct GustFacts {
 
 // What the judge says.
 #[repr(C)]
-#[derive(Drop)]
+#[derive(Clone, Copy)]
 pub struct GustVerdict {
     pub number: u64,
     pub path: u64,
@@ -49,7 +49,7 @@ pub struct GustVerdict {
 
 // What a sheet tells: the mesh, the source and how many paths.
 #[repr(C)]
-#[derive(Drop)]
+#[derive(Clone, Copy)]
 pub struct GustReading {
     pub number: u64,
     pub path: u64,
@@ -62,7 +62,7 @@ pub struct GustReading {
 
 // The same of a sheet of either version, and its version.
 #[repr(C)]
-#[derive(Drop)]
+#[derive(Clone, Copy)]
 pub struct GustZonedReading {
     pub number: u64,
     pub path: u64,
@@ -76,7 +76,7 @@ pub struct GustZonedReading {
 
 // What becomes of a number that arrives, and the record to keep: 16 bytes, so that they come back in registers.
 #[repr(C)]
-#[derive(Drop)]
+#[derive(Clone, Copy)]
 pub struct GustArrival {
     pub number: u16,
     pub newest: u16,

@@ -6,7 +6,7 @@ ghost use Rattle.sheet.specs.Says as says;
 use mesh::Mesh;
 
 // Why a sheet is not written or not read.
-#[derive(Drop)]
+#[derive(Clone, Copy)]
 pub enum Flaw {
     // 30: fewer than 16 bytes, a length field that is not that of the bytes after it, or a path that runs out of bytes.
     Cut,
@@ -43,21 +43,21 @@ pub enum Flaw {
 }
 
 // How many bytes the sheet takes, or why there is none.
-#[derive(Drop)]
+#[derive(Clone, Copy)]
 pub enum Written {
     Bytes(usize),
     Refused(Flaw),
 }
 
 // The mesh, the source and how many paths, or why it is no sheet.
-#[derive(Drop)]
+#[derive(Clone, Copy)]
 pub enum Reading {
     Fan(Mesh, u64, usize),
     Refused(Flaw),
 }
 
 // The version of a sheet, which is 0 of a refusal, and what is read of it.
-#[derive(Drop)]
+#[derive(Clone, Copy)]
 pub struct Versioned {
     pub version: u64,
     pub reading: Reading,

@@ -9,14 +9,14 @@ use paths::FILLER;
 use sheet::Flaw;
 
 // Where the next path begins, or what is wrong with this one.
-#[derive(Drop)]
+#[derive(Clone, Copy)]
 enum Stride {
     Next(usize),
     Flawed(Flaw),
 }
 
 // What looking through the paths ends with.
-#[derive(Drop)]
+#[derive(Clone, Copy)]
 pub enum Looked {
     Whole,
     Flawed(Flaw),

@@ -17,7 +17,7 @@ use mesh::Mesh;
 pub use zones::{bundle_survivors, survivors};
 
 // How many paths are whole, or the first finding, or a refusal.
-#[derive(Drop)]
+#[derive(Clone, Copy)]
 pub enum Tally {
     Whole(u64),
     Found(Finding),

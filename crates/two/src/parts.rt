@@ -8,7 +8,7 @@ use answers::{Answer, Checked, Refusal};
 use two_parts::{Block, Order, Slot};
 
 // Where a relay stands, or why it is none.
-#[derive(Drop)]
+#[derive(Clone, Copy)]
 pub enum Place {
     At(Block, Slot),
     Refused(Refusal),

@@ -1,5 +1,7 @@
 // The two-level mesh of orders 1 to 5: its sizes, blocks and slots, links, and the mesh as one of its relays sees it. Inner: each function but the
 // facts of an order is called by other crates of the library, which meet its `requires`; users call `two`.
+#![tactic(auto)]
+
 mod links;
 mod parts;
 mod sizes;

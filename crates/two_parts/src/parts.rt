@@ -7,11 +7,11 @@ use crate::sizes;
 use crate::sizes::Order;
 
 // A block's number: 2^m bits in a mesh of order m.
-#[derive(Drop)]
+#[derive(Clone, Copy)]
 pub struct Block(pub u64);
 
 // A slot's number: m bits in a mesh of order m.
-#[derive(Drop)]
+#[derive(Clone, Copy)]
 pub struct Slot(pub u64);
 
 // The block of a relay's number: `block_of(Order(2), 27)` is block 6.

@@ -7,7 +7,7 @@ ghost use Rattle.two_parts.specs.Says.{fact_told};
 use answers::{Answer, Refusal};
 
 // The order of a mesh: 1 to 5, and the facts that go with it.
-#[derive(Drop)]
+#[derive(Clone, Copy)]
 pub struct Order(pub u64);
 
 impl Order {

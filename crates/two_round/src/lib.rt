@@ -12,7 +12,7 @@ ghost use Rattle.two_round.specs.Paths.{Part, Written};
 use two_parts::Order;
 
 // So many hops along the path of a row.
-#[derive(Drop)]
+#[derive(Clone, Copy)]
 pub struct Spot {
     pub row: usize,
     pub hops: usize,

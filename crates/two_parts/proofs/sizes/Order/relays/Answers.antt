@@ -1,0 +1,18 @@
+-- `two_parts::sizes::Order::relays` meets its contract. Assumes nothing.
+use Rattle.std.proofs.Common.{ap, ◌∙◌, rules}
+use Rattle.answers.specs.Pairs.{fact_known, fact_unknown}
+use Rattle.answers.specs.Told.{told}
+use Rattle.two_parts.specs.Two.{relays}
+use Rattle.two_parts.specs.Parts.{few}
+use Rattle.two_parts.proofs.sizes.Order.relays.Goals as goal
+
+pub relays_in-requires : goal.relays_in-requires
+relays_in-requires c = few c.args.self.0 c.known.ensures c.if-known.true
+
+pub returns-then-known : goal.returns-then-known
+returns-then-known c =
+    let m = c.args.self.0 in
+    ap (told 0 0) c.relays_in.ensures ∙ fact_known (relays m) c.known.ensures c.if-known.true
+
+pub returns : goal.returns
+returns c = let m = c.args.self.0 in fact_unknown (relays m) c.known.ensures c.if-known.false
