@@ -180,7 +180,8 @@ module _ (m s0 : ℕ) (g : List ℕ) (row n leave last at : ℕ) (was : List ℕ
           bound = omega arith;
           here = b;
           body = k.body ++ inside b (slot ∷ d.way);
-          crosses = rw (taken, at_b) more;
+          crosses = subst (λ (y : List ℕ). Crosses m s0 leave b e y (k.body ++ inside b (slot ∷ d.way))) (sym taken)
+              (subst (λ (y : ℕ). Crosses m s0 leave y e (take i path ++ (y ∷ [])) (k.body ++ inside y (slot ∷ d.way))) (sym at_b) more);
           slot_in = x.within;
           door = x.goes;
           done = λ z. x.ends z;
