@@ -33,16 +33,16 @@ module _ {paths : ℕ → List ℕ} (f : Lists (cube 2) 0 targets paths) where
   one = ⊎_elim
       (λ z. absurd (f.apart 0 1 (omega arith) (omega arith) (λ e. omega arith) 1 (rw z.1 (inl refl)) (meets (cube 2) 0 1 (paths 1) (f.chain 1 (omega arith)) (λ e. omega arith))))
       (λ a.
-      let b = onward a.0 a.2 (λ e. omega arith) of_2 in
-      a.1 ∙ ap (λ (l : List ℕ). 2 ∷ l) (b.1 ∙ ap (λ (l : List ℕ). 3 ∷ l) (arrived b.0 b.2)))
-      (first (paths 0) (f.chain 0 (omega arith)) (f.fresh 0 (omega arith)) (λ e. omega arith) of_0)
+      let b = onward {m = cube 2} a.0 a.2 (λ e. omega arith) of_2 in
+      a.1 ∙ ap (λ (l : List ℕ). 2 ∷ l) (b.1 ∙ ap (λ (l : List ℕ). 3 ∷ l) (arrived {m = cube 2} b.0 b.2)))
+      (first {m = cube 2} (paths 0) (f.chain 0 (omega arith)) (f.fresh 0 (omega arith)) (λ e. omega arith) of_0)
 
   -- 2 stands on the first path, so the second leaves 0 by 1
   two : paths 1 ≡ 1 ∷ []
   two = ⊎_elim
-      (λ a. a.1 ∙ ap (λ (l : List ℕ). 1 ∷ l) (arrived a.0 a.2))
+      (λ a. a.1 ∙ ap (λ (l : List ℕ). 1 ∷ l) (arrived {m = cube 2} a.0 a.2))
       (λ z. absurd (f.apart 0 1 (omega arith) (omega arith) (λ e. omega arith) 2 (rw one (inl refl)) (rw z.1 (inl refl))))
-      (first (paths 1) (f.chain 1 (omega arith)) (f.fresh 1 (omega arith)) (λ e. omega arith) of_0)
+      (first {m = cube 2} (paths 1) (f.chain 1 (omega arith)) (f.fresh 1 (omega arith)) (λ e. omega arith) of_0)
 
 pub case_g : CaseG
 unfolding finding_by finding_from finding_of unlinked_at seen_at unfilled_at unlinked seen twinned on unfilled relay hops seek any among linked ones
