@@ -1,5 +1,5 @@
-use Rattle.std.proofs.Common.{◌+◌, ◌-◌, arith, refl, rules}
-use Rattle.octets.specs.Turns.{Reading, reading_starts, reading-room, reading-more, reading-ends}
+use Rattle.std.proofs.Common.{◌+◌, arith, refl}
+use Rattle.octets.specs.Turns.{reading_starts, reading-room, reading-more, reading-ends}
 use Rattle.octets.proofs.number.Goals as goal
 
 -- src/lib.rt:27:5

@@ -1,6 +1,6 @@
 -- `octets::number` meets its contract: the invariant is that i bytes are read. Assumes nothing.
-use Rattle.std.proofs.Common.{◌+◌, ◌-◌, arith, refl, rules}
-use Rattle.octets.specs.Turns.{Reading, reading_starts, reading-room, reading-more, reading-ends}
+use Rattle.std.proofs.Common.{◌-◌}
+use Rattle.octets.specs.Turns.{Reading}
 use Rattle.octets.proofs.number.Given as goal
 
 abbrev pub invariant-loop-i : goal.invariant-loop-i

@@ -1,5 +1,5 @@
 -- `octets::number_eight` meets its contract. Assumes nothing.
-use Rattle.std.proofs.Common.{◌+◌, arith, rules}
+use Rattle.std.proofs.Common.{◌+◌, arith}
 use Rattle.octets.specs.Turns.{number_eight}
 use Rattle.octets.proofs.number_eight.Goals as goal
 

@@ -1,5 +1,5 @@
 -- `octets::put_eight` meets its contract. Assumes nothing.
-use Rattle.std.proofs.Common.{arith, length-set, rules}
+use Rattle.std.proofs.Common.{arith, length-set}
 use Rattle.octets.specs.Turns.{put_eight}
 use Rattle.octets.proofs.put_eight.Goals as goal
 
