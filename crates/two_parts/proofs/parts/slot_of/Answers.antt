@@ -1,5 +1,5 @@
 -- `two_parts::parts::slot_of` meets its contract. Assumes nothing.
-use Rattle.std.proofs.Common.{ℕ, ◌%◌, ap, rules, arith, pow_pos}
+use Rattle.std.proofs.Common.{ℕ, ◌%◌, ap}
 use Rattle.two_parts.proofs.parts.slot_of.Goals as goal
 
 -- TODO no goal for the old `nonzero-rem-t4`:

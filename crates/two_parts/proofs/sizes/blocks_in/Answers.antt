@@ -1,5 +1,5 @@
 -- `two_parts::sizes::blocks_in` meets its contract. Assumes nothing.
-use Rattle.std.proofs.Common.{ℕ, ◌^◌, ap, ◌∙◌, rules, arith}
+use Rattle.std.proofs.Common.{ℕ, ◌^◌, ap, ◌∙◌, arith}
 use Rattle.two_parts.specs.Parts.{slots-few}
 use Rattle.two_parts.proofs.sizes.blocks_in.Goals as goal
 

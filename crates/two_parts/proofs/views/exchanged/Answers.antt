@@ -15,9 +15,7 @@ pub swap-turned-requires : goal.swap-turned-requires
 swap-turned-requires c =
     record {
       up_bound = subst (λ (n : ℕ). c.args.mask * 2 ^ n < 2 ^ 64) (sym c.power.ensures) (group_fits c.args.j c.requires.j_bound c.args.mask c.requires.mask_bound);
-      up_bound_2 = (
-      omega (arith, c.power.ensures, group_few c.args.j c.requires.j_bound),
-    );
+      up_bound_2 = omega (arith, c.power.ensures, group_few c.args.j c.requires.j_bound);
     }
 
 pub bit-requires : goal.bit-requires

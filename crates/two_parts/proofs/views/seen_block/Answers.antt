@@ -1,9 +1,10 @@
 -- `two_parts::views::seen_block` meets its contract: five exchanges, and what is no block's dropped. Assumes nothing.
-use Rattle.std.proofs.Common.{ℕ, ◌%◌, ◌≡◌, ap, ap₂, ◌∙◌, bit_xor, rules}
+use Rattle.std.proofs.Common.{ℕ, ◌%◌, ◌≡◌, ap, ap₂, ◌∙◌, bit_xor}
 use Rattle.two_parts.specs.Groups.{mask, exchanged, moved, moved-seen}
 use Rattle.two_parts.proofs.views.seen_block.Goals as goal
 
 pub returns : goal.returns
+unfolding moved
 returns c =
     let a = c.args in
     ap₂ (λ (x y : ℕ). x % y) ((let all : let a = c.args in c.exchanged-by_sixteen.result ≡ moved 5 a.b.0 (bit_xor a.x.0 a.a.0) = let b = c.args.b.0 in

@@ -1,5 +1,5 @@
 -- `two_parts::views::seen_from` meets its contract. Assumes nothing.
-use Rattle.std.proofs.Common.{ℕ, ◌<◌, ◌≡◌, sym, ap, ap₂, ◌∙◌, subst, rules}
+use Rattle.std.proofs.Common.{ℕ, ◌<◌, ◌≡◌, sym, ap, ap₂, ◌∙◌, subst}
 use Rattle.two_parts.specs.Two.{slots, blocks, relay, block_of, slot_of}
 use Rattle.two_parts.specs.Seen.{seen_block, seen_slot, seen}
 use Rattle.two_parts.specs.Moves.{seen_block-lt, seen_slot-lt}

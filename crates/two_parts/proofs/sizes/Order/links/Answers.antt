@@ -1,5 +1,5 @@
 -- `two_parts::sizes::Order::links` meets its contract. Assumes nothing.
-use Rattle.std.proofs.Common.{rules, ◌+◌, arith}
+use Rattle.std.proofs.Common.{◌+◌, arith}
 use Rattle.answers.specs.Pairs.{fact_known, fact_unknown}
 use Rattle.two_parts.specs.Parts.{few}
 use Rattle.two_parts.proofs.sizes.Order.links.Goals as goal

@@ -1,5 +1,5 @@
 -- `two_parts::sizes::Order::longest` meets its contract. Assumes nothing.
-use Rattle.std.proofs.Common.{ap, ◌∙◌, rules}
+use Rattle.std.proofs.Common.{ap, ◌∙◌}
 use Rattle.answers.specs.Pairs.{fact_known, fact_unknown}
 use Rattle.answers.specs.Told.{told}
 use Rattle.two_parts.specs.Two.{longest}

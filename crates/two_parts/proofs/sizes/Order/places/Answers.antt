@@ -1,5 +1,5 @@
 -- `two_parts::sizes::Order::places` meets its contract. Assumes nothing.
-use Rattle.std.proofs.Common.{ap, ◌∙◌, rules, ℕ, ◌+◌, arith}
+use Rattle.std.proofs.Common.{ap, ◌∙◌, ℕ, ◌+◌, arith}
 use Rattle.answers.specs.Pairs.{fact_known, fact_unknown}
 use Rattle.answers.specs.Told.{told}
 use Rattle.two_parts.specs.Two.{longest}
