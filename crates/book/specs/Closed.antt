@@ -161,6 +161,7 @@ slid-key l x = go (key_of x) (length (kept (take (start_of x) l))) (slid-start l
 
 module _ (f : ℕ → ℕ) (same : (x : ℕ) → key_of (f x) ≡ key_of x) where
   in_map : (l : List ℕ) (y : ℕ) → In y (map f l) → (x : ℕ) × (In x l × (y ≡ f x))
+  in_map [] y i = absurd i
   in_map (x ∷ l) y (inl e) = (x, (inl refl, e))
   in_map (x ∷ l) y (inr i) = let r = in_map l y i in (r.0, (inr r.1.0, r.1.1))
 
@@ -292,6 +293,7 @@ placed-lives ps d h r = placed_behind (joined ps) [] ps tt d refl h r
 -- its bytes are live ones no more
 pub lives-mark : (from s : ℕ) (p : List ℕ) (ps : List (List ℕ)) → Sound ps → Stands from ps s p → live p ≡ true → length (joined (lives ps)) ≡ length p + length (joined (lives (mark from s ps)))
 unfolding lives joined
+lives-mark from s p [] d g l = absurd g
 lives-mark from s p (q ∷ ps) d (inl g) l =
     let own : live q ≡ true = ap live (sym g.1) ∙ l in
     let gone-now = gone-live q (omega (arith, d.0.long)) in

@@ -444,12 +444,12 @@ kept_step st k close = kept_close k
 tells-on : {places room : ℕ} {m : Plain} (st : State) → KeptIn places room m st → (cs : List Call) → tells st cs ≡ plain_tells places room m cs
 unfolding tells plain_tells
 tells-on st k [] = refl
-tells-on {places} {room} {m} st k (c ∷ cs) = ap₂ (λ (a : Answer) (l : List Answer). a ∷ l) (told-step st k c) (tells-on (step st c) (kept_step st k c) cs)
+tells-on {places} {room} {m} st k (c ∷ cs) = ap₂ (λ (a : Answer) (l : List Answer). a ∷ l) (told-step st k c) (tells-on {m = plain_after places room m c} (step st c) (kept_step st k c) cs)
 
 kept-after : {places room : ℕ} {m : Plain} (st : State) → KeptIn places room m st → (cs : List Call) → KeptIn places room (plain_end places room m cs) (after st cs)
 unfolding after plain_end
 kept-after st k [] = k
-kept-after st k (c ∷ cs) = kept-after (step st c) (kept_step st k c) cs
+kept-after {places} {room} {m} st k (c ∷ cs) = kept-after {m = plain_after places room m c} (step st c) (kept_step st k c) cs
 
 pub kept_fresh : (bytes index : List ℕ) → KeptIn (capacity index) (limit bytes) empty (fresh bytes index)
 unfolding joined placed sheet_of lives

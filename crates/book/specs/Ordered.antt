@@ -65,6 +65,7 @@ rising_at (x ∷ l) r (suc i) (suc j) h g = rising_at l r.1 i j (omega arith) (o
 
 -- a key stands once
 pub same_key : (l : List ℕ) → Rising l → (x y : ℕ) → In x l → In y l → key_of x ≡ key_of y → x ≡ y
+same_key [] r x y a b e = absurd a
 same_key (z ∷ l) r x y (inl a) (inl b) e = a ∙ sym b
 same_key (z ∷ l) r x y (inl a) (inr b) e = absurd (omega (arith, r.0 y b, ap key_of a))
 same_key (z ∷ l) r x y (inr a) (inl b) e = absurd (omega (arith, r.0 x a, ap key_of b))
@@ -80,6 +81,7 @@ either P false x y s t = t refl
 pub in_insert : (x z : ℕ) (l : List ℕ) → In z (insert x l) → (z ≡ x) ⊎ In z l
 unfolding insert
 in_insert x z [] (inl e) = inl e
+in_insert x z [] (inr h) = absurd h
 in_insert x z (y ∷ l) h =
     either (λ m. In z m → (z ≡ x) ⊎ In z (y ∷ l)) (ltb y x) (y ∷ insert x l) (x ∷ y ∷ l)
     (λ t. ⊎_elim (λ e. inr (inl e)) (λ i. ⊎_elim inl (λ k. inr (inr k)) (in_insert x z l i))) (λ f. λ i. i) h
@@ -87,6 +89,7 @@ in_insert x z (y ∷ l) h =
 pub insert_in : (x z : ℕ) (l : List ℕ) → (z ≡ x) ⊎ In z l → In z (insert x l)
 unfolding insert
 insert_in x z [] (inl e) = inl e
+insert_in x z [] (inr h) = absurd h
 insert_in x z (y ∷ l) h =
     either (λ m. In z m) (ltb y x) (y ∷ insert x l) (x ∷ y ∷ l)
     (λ t. ⊎_elim (λ e. inr (insert_in x z l (inl e))) (λ i. ⊎_elim inl (λ k. inr (insert_in x z l (inr k))) i) h) (λ f. h)

@@ -62,6 +62,7 @@ set_later (x ∷ p) l i a = ap (λ (k : ℕ). set (x ∷ (p ++ l)) k a) (suc-add
 
 pub joined-mark : (from s : ℕ) (p : List ℕ) (ps : List (List ℕ)) (d : ℕ) → Sound ps → Stands from ps s p → s ≡ from + d → joined (mark from s ps) ≡ set (joined ps) (d + VERSIONED) 0
 unfolding joined
+joined-mark from s p [] d h g e = absurd g
 joined-mark from s p (q ∷ ps) d h (inl g) e =
     let z : d ≡ 0 = omega (arith, g.0) in
     ap joined (mark-here from s q ps g.0) ∙ sym (set-append_left q (joined ps) VERSIONED 0 (omega (arith, h.0.long)))
@@ -97,6 +98,7 @@ apart from ps k s h w d i =
 pub placed-mark : (from s : ℕ) (p : List ℕ) (ps : List (List ℕ)) → Sound ps → from + length (joined ps) ≤ STARTS → Stands from ps s p → live p ≡ true
     → placed from (mark from s ps) ≡ without (entry (key_at p) s) (placed from ps)
 unfolding placed joined
+placed-mark from s p [] h w g l = absurd g
 placed-mark from s p (q ∷ ps) h w (inl g) l =
     let x = entry (key_at p) s in
     let rest = placed (from + length q) ps in
@@ -133,6 +135,7 @@ placed-mark from s p (q ∷ ps) h w (inr g) l =
 
 -- what is live afterwards stood there before, elsewhere
 pub mark-stands : (from s : ℕ) (p : List ℕ) (ps : List (List ℕ)) → Sound ps → Stands from ps s p → (t : ℕ) (r : List ℕ) → Stands from (mark from s ps) t r → live r ≡ true → Stands from ps t r × (t ≢ s)
+mark-stands from s p [] h g t r st l = absurd g
 mark-stands from s p (q ∷ ps) h (inl g) t r st l = go (subst (λ (m : List (List ℕ)). Stands from m t r) (mark-here from s q ps g.0) st)
   where
     go : Stands from (gone q ∷ ps) t r → Stands from (q ∷ ps) t r × (t ≢ s)
@@ -151,6 +154,7 @@ mark-stands from s p (q ∷ ps) h (inr g) t r st l =
 module _ (kind size source : ℕ) where
   pub sheet-mark-other : (from s : ℕ) (p : List ℕ) (ps : List (List ℕ)) → Sound ps → Stands from ps s p → of kind size source p ≡ false → sheet_of kind size source (mark from s ps) ≡ sheet_of kind size source ps
   unfolding sheet_of
+  sheet-mark-other from s p [] h g o = absurd g
   sheet-mark-other from s p (q ∷ ps) h (inl g) o =
       ap (sheet_of kind size source) (mark-here from s q ps g.0)
       ∙ ap (λ (b : Bool). pick b (pick (of kind size source (gone q)) (some (gone q)) (sheet_of kind size source ps)) (sheet_of kind size source ps)) (gone-live q (omega (arith, h.0.long)))

@@ -62,18 +62,22 @@ unfolding joined
 joined-cons p ps = length-append p (joined ps)
 
 pub stands_from : (from : ℕ) (ps : List (List ℕ)) (s : ℕ) (p : List ℕ) → Stands from ps s p → from ≤ s
+stands_from from [] s p h = absurd h
 stands_from from (q ∷ ps) s p (inl e) = omega (arith, e.0)
 stands_from from (q ∷ ps) s p (inr h) = omega (arith, stands_from (from + length q) ps s p h)
 
 pub stands_within : (from : ℕ) (ps : List (List ℕ)) (s : ℕ) (p : List ℕ) → Stands from ps s p → s + length p ≤ from + length (joined ps)
+stands_within from [] s p h = absurd h
 stands_within from (q ∷ ps) s p (inl e) = omega (arith, e.0, ap length e.1, joined-cons q ps)
 stands_within from (q ∷ ps) s p (inr h) = omega (arith, stands_within (from + length q) ps s p h, joined-cons q ps)
 
 pub stands_sound : (from : ℕ) (ps : List (List ℕ)) (s : ℕ) (p : List ℕ) → Sound ps → Stands from ps s p → Piece p
+stands_sound from [] s p d h = absurd h
 stands_sound from (q ∷ ps) s p d (inl e) = subst Piece (sym e.1) d.0
 stands_sound from (q ∷ ps) s p d (inr h) = stands_sound (from + length q) ps s p d.1 h
 
 pub stands_same : (from : ℕ) (ps : List (List ℕ)) (s : ℕ) (p r : List ℕ) → Sound ps → Stands from ps s p → Stands from ps s r → p ≡ r
+stands_same from [] s p r d e f = absurd e
 stands_same from (q ∷ ps) s p r d (inl e) (inl f) = e.1 ∙ sym f.1
 stands_same from (q ∷ ps) s p r d (inl e) (inr f) = absurd (omega (arith, e.0, stands_from (from + length q) ps s r f, d.0.long))
 stands_same from (q ∷ ps) s p r d (inr e) (inl f) = absurd (omega (arith, f.0, stands_from (from + length q) ps s p e, d.0.long))
@@ -81,6 +85,7 @@ stands_same from (q ∷ ps) s p r d (inr e) (inr f) = stands_same (from + length
 
 pub stands-bytes : (from : ℕ) (ps : List (List ℕ)) (s : ℕ) (p : List ℕ) (d : ℕ) → s ≡ from + d → Stands from ps s p → take (length p) (drop d (joined ps)) ≡ p
 unfolding joined
+stands-bytes from [] s p d e h = absurd h
 stands-bytes from (q ∷ ps) s p d e (inl h) =
     let z : d ≡ 0 = omega (arith, h.0) in
     ap (λ (n : ℕ). take (length p) (drop n (q ++ joined ps))) z ∙ ap (λ (r : List ℕ). take (length p) (r ++ joined ps)) (sym h.1) ∙ take-append_seam p (joined ps)
@@ -103,6 +108,7 @@ up-placed from (p ∷ ps) = go (live p) (up-placed (from + length p) ps)
 
 pub in_placed : (from : ℕ) (ps : List (List ℕ)) (s : ℕ) (p : List ℕ) → Stands from ps s p → live p ≡ true → In (entry (key_at p) s) (placed from ps)
 unfolding placed
+in_placed from [] s p h l = absurd h
 in_placed from (q ∷ ps) s p (inl e) l =
     let here : In (entry (key_at p) s) (insert (entry (key_at q) from) (placed (from + length q) ps))
     = insert_in (entry (key_at q) from) (entry (key_at p) s) (placed (from + length q) ps) (inl (ap₂ (λ (r : List ℕ) (n : ℕ). entry (key_at r) n) e.1 e.0)) in
@@ -222,6 +228,7 @@ module _ (kind size source : ℕ) where
 
   pub sheet-none : (from : ℕ) (ps : List (List ℕ)) (s : ℕ) (p : List ℕ) → sheet_of kind size source ps ≡ none → Stands from ps s p → live p ≡ true → of kind size source p ≡ true → ⊥
   unfolding sheet_of
+  sheet-none from [] s p e h l o = absurd h
   sheet-none from (q ∷ ps) s p e (inl h) l o =
       none-some (sym e ∙ ap₂ (λ (a b : Bool). pick a (pick b (some q) (sheet_of kind size source ps)) (sheet_of kind size source ps)) (ap live (sym h.1) ∙ l) (ap (of kind size source) (sym h.1) ∙ o))
   sheet-none from (q ∷ ps) s p e (inr h) l o = go (live q) (of kind size source q) e (λ r. sheet-none (from + length q) ps s p r h l o)
