@@ -1,4 +1,6 @@
 // Copies of a frame told apart: the record that a receiver keeps, and what it says of a number that arrives.
+#![tactic(auto)]
+
 ghost use Rattle.std.specs.Prelude.{◌≡◌, ◌*◌, ◌%◌, ◌^◌, ◌<◌, ◌≤◌};
 ghost use Rattle.arrivals.specs.Says as specs;
 

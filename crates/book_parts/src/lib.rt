@@ -1,5 +1,7 @@
 // What the routines of a book do to the slices lent to them: the index searched, a place put into it and taken out of it, a sheet copied. Inner: callers meet each
 // `requires`.
+#![tactic(auto)]
+
 ghost use Rattle.std.specs.Prelude.{◌≡◌, ◌+◌, ◌≤◌, ◌<◌, length};
 ghost use Rattle.std.proofs.lemmas.List.Edits.{sets};
 ghost use Rattle.book_parts.specs.Place as search;

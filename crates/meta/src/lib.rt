@@ -1,5 +1,7 @@
 // Metacubes: links, next hop and plain route. A relay's number holds its class at the top, then the last part down to part 0; in a class the bits of its own part
 // can be changed, and those of the class everywhere.
+#![tactic(auto)]
+
 mod pairs;
 mod routes;
 mod steps;

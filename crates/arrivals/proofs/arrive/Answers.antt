@@ -1,0 +1,40 @@
+-- `arrivals::arrive` meets its contract: each return is a case of the rules. Assumes nothing.
+use Rattle.std.proofs.Common.{ℕ, sym, ap, ◌∙◌, arith, rules}
+use Rattle.bits.specs.Laws.{bit-on, bit_off}
+use Rattle.arrivals.specs.Says.{kept}
+use Rattle.arrivals.specs.Laws.{minus_is, arrival-first, arrival-seen, arrival-marked, arrival-further, arrival_old}
+use Rattle.arrivals.specs.declared.Arrival.TheVariants.{Passed}
+use Rattle.arrivals.proofs.arrive.Goals as goal
+
+pub returns-then-marks-eq0 : goal.returns-then-marks-eq0
+returns-then-marks-eq0 c = sym (arrival-first c.args.was c.args.number (omega arith))
+
+pub returns-then-bit : goal.returns-then-bit
+returns-then-bit c =
+    let a = c.args in
+    sym (arrival-seen a.was a.number (λ z. omega arith) (omega arith) (omega arith)
+    (minus_is (omega arith) (omega arith) c.wrapping_sub_u16-ahead.ensures.value) (minus_is (omega arith) (omega arith) c.wrapping_sub_u16-behind.ensures.value)
+    (omega arith) (bit-on _ a.was.marks (sym c.bit.ensures ∙ c.if-bit.true)))
+
+pub returns-then-behind-lt64 : goal.returns-then-behind-lt64
+returns-then-behind-lt64 c =
+    let a = c.args in
+    ap (λ (m : ℕ). Passed (kept a.was.newest m)) c.flip.ensures
+    ∙ sym (arrival-marked a.was a.number (λ z. omega arith) (omega arith) (omega arith)
+    (minus_is (omega arith) (omega arith) c.wrapping_sub_u16-ahead.ensures.value) (minus_is (omega arith) (omega arith) c.wrapping_sub_u16-behind.ensures.value)
+    (omega arith) (bit_off _ a.was.marks (sym c.bit.ensures ∙ c.if-bit.false)))
+
+pub returns-then-ahead-le32767 : goal.returns-then-ahead-le32767
+returns-then-ahead-le32767 c =
+    let a = c.args in
+    ap (λ (m : ℕ). Passed (kept a.number m)) c.moved.ensures
+    ∙ sym (arrival-further a.was a.number (λ z. omega arith) (omega arith) (omega arith)
+    (minus_is (omega arith) (omega arith) c.wrapping_sub_u16-ahead.ensures.value) (minus_is (omega arith) (omega arith) c.wrapping_sub_u16-behind.ensures.value)
+    (omega arith) (omega arith))
+
+pub returns : goal.returns
+returns c =
+    let a = c.args in
+    sym (arrival_old a.was a.number (λ z. omega arith) (omega arith) (omega arith)
+    (minus_is (omega arith) (omega arith) c.wrapping_sub_u16-ahead.ensures.value) (minus_is (omega arith) (omega arith) c.wrapping_sub_u16-behind.ensures.value)
+    (omega arith) (omega arith))

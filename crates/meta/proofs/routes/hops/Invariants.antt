@@ -1,0 +1,18 @@
+-- `meta::routes::hops` meets its contract. The invariant: after k hops, of at most as many as are needed, the walk is at `at`. Assumes nothing.
+use Rattle.std.proofs.Common.{ℕ, ◌-◌, ◌≤◌, ◌<◌, ◌≡◌, sym, ap, ◌∙◌, arith}
+use Rattle.paths.specs.Walk.{node}
+use Rattle.paths.specs.Walks.{node-start, node-more}
+use Rattle.paths.specs.Walked.{walk-short, walk-all}
+use Rattle.meta.specs.Says.{next, hops}
+use Rattle.meta.specs.Walks.{arrives, hops-few, on-way}
+use Rattle.meta.proofs.routes.hops.Given as goal
+
+pub record Inv (n s t at k : ℕ) : Type 0 where
+  pub bound : k ≤ hops n s t
+  pub here : at ≡ node (next n) s t k
+
+abbrev pub invariant-loop-at : goal.invariant-loop-at
+invariant-loop-at l = Inv l.size.0 l.s l.t l.at l.k
+
+abbrev pub decreases-loop-at : goal.decreases-loop-at
+decreases-loop-at l = hops l.size.0 l.s l.t - l.k

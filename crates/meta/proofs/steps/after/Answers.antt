@@ -1,0 +1,24 @@
+-- `meta::steps::after` meets its contract. Assumes nothing.
+use Rattle.std.proofs.Common.{ℕ, ◌+◌, ◌/◌, ◌%◌, ap, ◌∙◌, rules, arith, bit_xor, pow_pos, pow_mono}
+use Rattle.bits.specs.Gray.{gray}
+use Rattle.meta_parts.specs.Sizes.{classes_few}
+use Rattle.meta.specs.Cycle.{place, after, place-few}
+use Rattle.meta.proofs.steps.after.Goals as goal
+
+pub overflow_add-place : goal.overflow_add-place
+overflow_add-place c = omega (arith, place-few c.args.c (omega (arith, c.requires.below, classes_few c.requires.few)))
+
+pub overflow_cast-k : goal.overflow_cast-k
+overflow_cast-k c = omega (arith, c.requires.few)
+
+pub power-requires : goal.power-requires
+power-requires c = omega (arith, c.requires.few)
+
+-- TODO no goal for the old `nonzero-rem-gray`:
+-- rem-gray c = omega (arith, c.power.ensures, pow_pos c.before.args.k)
+
+pub returns : goal.returns
+unfolding after place
+returns c =
+    let a = c.args in
+    c.gray.ensures ∙ ap (λ (x : ℕ). gray ((bit_xor (bit_xor a.c (a.c / 2)) (a.c / 4) + 1) % x)) c.power.ensures
