@@ -16,7 +16,6 @@ bounds-out-k c = let w = c.loop-at.invariant in omega (arith, w.bound, w.room, w
 pub hop-at-requires : goal.hop-at-requires
 hop-at-requires c = let w = c.loop-at.invariant in on-way c.requires.fine w.bound w.here
 
--- TODO no step well_formed among hop, loop-test, loop, slice_known
 pub overflow_add-k : goal.overflow_add-k
 overflow_add-k c = omega (
   arith,

@@ -14,9 +14,6 @@ overflow_cast-k c = omega (arith, c.requires.few)
 pub power-requires : goal.power-requires
 power-requires c = omega (arith, c.requires.few)
 
--- TODO no goal for the old `nonzero-rem-gray`:
--- rem-gray c = omega (arith, c.power.ensures, pow_pos c.before.args.k)
-
 pub returns : goal.returns
 unfolding after place
 returns c =

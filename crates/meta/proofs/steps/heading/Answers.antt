@@ -17,9 +17,6 @@ overflow_cast-span c = omega (arith, c.span_in-span.ensures, span-few (fine-size
 pub power-requires : goal.power-requires
 power-requires c = omega (arith, c.span_in-span.ensures, span-few (fine-sized c.requires))
 
--- TODO no goal for the old `nonzero-rem-if1`:
--- rem-if1 c = omega (arith, c.power.ensures, pow_pos c.before.span-in.result)
-
 pub class_of-requires : goal.class_of-requires
 class_of-requires c = c.requires.size
 

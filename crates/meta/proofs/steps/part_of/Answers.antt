@@ -15,9 +15,6 @@ overflow_cast-m c = omega (arith, c.requires.narrow)
 pub power-requires : goal.power-requires
 power-requires c = omega (arith, c.requires.narrow)
 
--- TODO no goal for the old `nonzero-rem-result`:
--- rem-result c = omega (arith, c.power.ensures, pow_pos c.before.args.m)
-
 pub returns : goal.returns
 unfolding part
 returns c = let a = c.args in ap (λ (x : ℕ). a.y / 2 ^ (a.m * a.c) % x) c.power.ensures
