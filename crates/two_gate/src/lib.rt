@@ -1,4 +1,6 @@
 // A gate for a target.
+#![tactic(auto)]
+
 ghost use Rattle.std.specs.Prelude.{◌≡◌, ℕ, suc, ◌^◌, ◌<◌, ◌≤◌, get_or};
 ghost use Rattle.bits.specs.Bit.{bit};
 ghost use Rattle.two_math.specs.Gates.{Passes, cand};
