@@ -1,6 +1,6 @@
 -- The blocks of a block path, each entered by a door and walked through to the next (`Crossed`): what the loop that writes them keeps.
 -- A block path is a row of a grid. Assumes nothing.
-use Rattle.std.specs.Prelude.{ℕ, zero, suc, ◌+◌, ◌-◌, ◌*◌, ◌^◌, ◌≤◌, ◌<◌, ◌≡◌, refl, ◌≢◌, List, [], ◌∷◌, ◌++◌, length, get_or, take, set}
+use Rattle.std.specs.Prelude.{ℕ, suc, ◌+◌, ◌-◌, ◌*◌, ◌^◌, ◌≤◌, ◌<◌, ◌≡◌, refl, ◌≢◌, List, [], ◌∷◌, ◌++◌, length, get_or, take, set}
 use Rattle.std.proofs.Common.{sym, ap, ◌∙◌, subst, inl, inr, add-zero, suc-mul, mul-le-mul_right, add-one, arith, length-append, length-take, take-suc, pow_mono, pow-add}
 use Rattle.std.proofs.lemmas.List.Edits.{sets}
 use Rattle.std.proofs.Math.Seq.{length-sets}

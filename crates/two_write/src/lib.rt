@@ -1,4 +1,6 @@
 // Paths of the two-level mesh written into a slice, piece by piece. Inner: the planner meets each `requires`.
+#![tactic(auto)]
+
 ghost use Rattle.std.specs.Prelude.{◌≡◌, ℕ, suc, ◌+◌, ◌*◌, ◌^◌, ◌<◌, ◌≤◌, length, get_or, take};
 ghost use Rattle.two_write.specs.Row.{hops};
 ghost use Rattle.two_write.specs.Walked.{Room, Walked, Next};
