@@ -1,4 +1,6 @@
 // A mesh by its kind and size: the facts of a size, links, next hop, distance and plain route over every kind. Kinds meet here and in `planner`.
+#![tactic(auto)]
+
 mod pairs;
 mod requested;
 

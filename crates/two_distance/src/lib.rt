@@ -1,4 +1,6 @@
 // Distances: the fewest links between two relays of the two-level mesh, for orders 1 to 3.
+#![tactic(auto)]
+
 ghost use Rattle.std.specs.Prelude.{◌≡◌};
 ghost use Rattle.answers.specs.Told.{answer_told};
 ghost use Rattle.two_parts.specs.Two.{named};

@@ -1,0 +1,47 @@
+-- `mesh::meta_fact` meets its contract: a known metacube is small. Assumes nothing.
+use Rattle.std.proofs.Common.{ℕ, ◌+◌, ◌≡◌, refl, sym, ap, ◌∙◌, arith, rules}
+use Rattle.meta_parts.specs.Meta.{metacube}
+use Rattle.meta_parts.specs.Sizes.{known-sized, longest-few}
+use Rattle.mesh.specs.Says.{fact_of}
+use Rattle.mesh.specs.declared.Fact.{Fact}
+use Rattle.mesh.proofs.meta_fact.Goals as goal
+
+pub relays_in-requires : goal.relays_in-requires
+relays_in-requires c = c.requires
+
+pub links_in-requires : goal.links_in-requires
+links_in-requires c = c.requires
+
+pub longest_in-requires : goal.longest_in-requires
+longest_in-requires c = c.requires
+
+pub longest_in-requires-in-Places : goal.longest_in-requires-in-Places
+longest_in-requires-in-Places c = c.requires
+
+pub overflow_add-result : goal.overflow_add-result
+overflow_add-result c = omega (arith, c.longest_in-in-Places.ensures, longest-few (known-sized c.args.n refl c.requires))
+
+pub longest_in-requires-in-BundlePlaces : goal.longest_in-requires-in-BundlePlaces
+longest_in-requires-in-BundlePlaces c = c.requires
+
+pub overflow_add-result-in-BundlePlaces : goal.overflow_add-result-in-BundlePlaces
+overflow_add-result-in-BundlePlaces c = omega (arith, c.longest_in-in-BundlePlaces.ensures, longest-few (known-sized c.args.n refl c.requires))
+
+pub returns-in-Relays : goal.returns-in-Relays
+returns-in-Relays c = c.relays_in.ensures ∙ ap (λ (w : Fact). fact_of w (metacube c.args.n)) (sym c.in-Relays.is)
+
+pub returns-in-Links : goal.returns-in-Links
+returns-in-Links c = c.links_in.ensures ∙ ap (λ (w : Fact). fact_of w (metacube c.args.n)) (sym c.in-Links.is)
+
+pub returns-in-Longest : goal.returns-in-Longest
+returns-in-Longest c = c.longest_in.ensures ∙ ap (λ (w : Fact). fact_of w (metacube c.args.n)) (sym c.in-Longest.is)
+
+pub returns-in-Places : goal.returns-in-Places
+returns-in-Places c =
+    ap (λ (x : ℕ). x + 1) c.longest_in-in-Places.ensures
+    ∙ ap (λ (w : Fact). fact_of w (metacube c.args.n)) (sym c.in-Places.is)
+
+pub returns-in-BundlePlaces : goal.returns-in-BundlePlaces
+returns-in-BundlePlaces c =
+    let more : c.longest_in-in-BundlePlaces.result + 2 ≡ (metacube c.args.n).longest + 1 + 1 = omega (arith, c.longest_in-in-BundlePlaces.ensures) in
+    more ∙ ap (λ (w : Fact). fact_of w (metacube c.args.n)) (sym c.in-BundlePlaces.is)
