@@ -1,8 +1,14 @@
-// Standard input read into a lent buffer: a line, as soon as its end has come, or all of it. Inner: callers meet each `requires`.
-ghost use Rattle.std.specs.Prelude.{◌≡◌, ◌≤◌, length};
+// An input read into a lent buffer: a line, as soon as its end has come, or all of it. Inner: callers meet each `requires`.
+#![tactic(auto)]
+
+ghost use Rattle.std.specs.Prelude.{◌≡◌, ◌+◌, ◌<◌, ◌≤◌, true, length, take, drop, IfOk};
+ghost use Rattle.std.specs.Io.KnownBytes.{Consumes, IsAtEnd};
 ghost use Rattle.scan.specs.Scan.{any};
 ghost use Rattle.line.specs.Text.{most_bytes};
 ghost use Rattle.input.specs.Says.{is_end, Came, CameAll};
+
+use std::io;
+use std::io::Read;
 
 // How many bytes came, and whether the input has ended: the last read gave none.
 #[derive(Clone, Copy)]
@@ -11,12 +17,16 @@ pub struct Input {
     pub ended: bool,
 }
 
-// Reads once into a slice, and answers how many bytes came: 0 at the end of the input.
-fn read_some(buf: &mut [u8]) -> usize
-    ensures { result ≤ length buf.new }
+// Reads once into what a buffer has behind its first n bytes, and answers how many bytes came: 0 at the end of the input.
+fn read_some<R: Read>(from: &mut R, buf: &mut [u8], n: usize) -> io::Result<usize>
+    requires { n < length buf.old }
+    ensures within { IfOk result (λ got. n + got ≤ length buf.new) }
+    ensures bytes { IfOk result (λ got. Consumes (R.remaining from.old) (R.remaining from.new) (take got (drop n buf.new))) }
+    ensures end { IfOk result (λ got. got ≡ 0 → IsAtEnd (R.remaining from.new)) }
+    ensures before { take n buf.new ≡ take n buf.old }
+    ensures kept { length buf.new ≡ length buf.old }
 {
-    let got = libc::read(libc::STDIN_FILENO, buf);
-    io::count(got, buf)
+    from.read(&mut buf[n..])
 }
 
 // Whether a line end stands in a text.
@@ -33,51 +43,57 @@ fn has_end(text: &[u8]) -> bool
     false
 }
 
-// Reads until a line end has come, the room of a line is full or the input ends.
-pub fn read_line(buf: &mut [u8]) -> Input
+// Reads until a line end has come, the room of a line is full or the input ends. What came is what the reader had.
+pub fn read_line<R: Read>(from: &mut R, buf: &mut [u8]) -> io::Result<Input>
     requires { length buf.old ≡ most_bytes }
-    ensures { Came buf.new result.bytes result.ended }
+    ensures came { IfOk result (λ i. Came buf.new i.bytes i.ended) }
+    ensures bytes { IfOk result (λ i. Consumes (R.remaining from.old) (R.remaining from.new) (take i.bytes buf.new)) }
+    ensures end { IfOk result (λ i. i.ended ≡ true → IsAtEnd (R.remaining from.new)) }
+    ensures kept { length buf.new ≡ length buf.old }
 {
     let mut n: usize = 0;
     while n < buf.len() {
-        let got = read_some(&mut buf[n..]);
+        let got = read_some(from, buf, n)?;
         if got == 0 {
-            return Input {
+            return Ok(Input {
                 bytes: n,
                 ended: true,
-            };
+            });
         }
         n += got;
         if has_end(&buf[..n]) {
-            return Input {
+            return Ok(Input {
                 bytes: n,
                 ended: false,
-            };
+            });
         }
     }
-    Input {
+    Ok(Input {
         bytes: n,
         ended: false,
-    }
+    })
 }
 
-// Reads until the input ends or the room is full.
-pub fn read_all(buf: &mut [u8]) -> Input
-    ensures { CameAll buf.new result.bytes result.ended }
+// Reads until the input ends or the room is full. What came is what the reader had.
+pub fn read_all<R: Read>(from: &mut R, buf: &mut [u8]) -> io::Result<Input>
+    ensures came { IfOk result (λ i. CameAll buf.new i.bytes i.ended) }
+    ensures bytes { IfOk result (λ i. Consumes (R.remaining from.old) (R.remaining from.new) (take i.bytes buf.new)) }
+    ensures end { IfOk result (λ i. i.ended ≡ true → IsAtEnd (R.remaining from.new)) }
+    ensures kept { length buf.new ≡ length buf.old }
 {
     let mut n: usize = 0;
     while n < buf.len() {
-        let got = read_some(&mut buf[n..]);
+        let got = read_some(from, buf, n)?;
         if got == 0 {
-            return Input {
+            return Ok(Input {
                 bytes: n,
                 ended: true,
-            };
+            });
         }
         n += got;
     }
-    Input {
+    Ok(Input {
         bytes: n,
         ended: false,
-    }
+    })
 }

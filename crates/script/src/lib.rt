@@ -1,7 +1,11 @@
 // What the programs of worked cases share: the numbers of standard input, runs of them, and numbers and answers written.
-ghost use Rattle.std.specs.Prelude.{◌≤◌, length};
+#![tactic(auto)]
+
+ghost use Rattle.std.specs.Prelude.{◌≤◌, length, IfOk};
 
 use answers::{Answer, YesNo};
+use std::io;
+use std::io::Read;
 
 // What the letter F stands for: 2^64 - 1.
 pub const FILLER: u64 = 18446744073709551615;
@@ -29,11 +33,8 @@ fn longer(value: u64, byte: u8) -> u64 {
     if byte == 70 {
         return FILLER;
     }
-    let two = std::num::wrapping_add_u64(value, value);
-    let four = std::num::wrapping_add_u64(two, two);
-    let eight = std::num::wrapping_add_u64(four, four);
-    let ten = std::num::wrapping_add_u64(eight, two);
-    std::num::wrapping_add_u64(ten, std::num::wrapping_sub_u64(byte as u64, 48))
+    let ten = value.wrapping_mul(10);
+    ten.wrapping_add((byte as u64).wrapping_sub(48))
 }
 
 // The number that begins at `at`, and where it ends.
@@ -100,24 +101,24 @@ pub fn least(a: usize, b: usize) -> usize
     if a < b { a } else { b }
 }
 
-pub fn text(s: &[u8]) {
-    io::write_all(1, s);
+pub fn text(to: &impl Print, s: &[u8]) -> io::Result<()> {
+    to.write_all(s)
 }
 
 // A number after a space.
-pub fn put(n: u64) {
-    text(b" ");
-    io::print_decimal(1, n);
+pub fn put(to: &impl Print, n: u64) -> io::Result<()> {
+    print!(to; " {n}")
 }
 
 // The first n numbers of a list.
-pub fn put_first(list: &[u64], n: usize) {
+pub fn put_first(to: &impl Print, list: &[u64], n: usize) -> io::Result<()> {
     let k = least(n, list.len());
     let mut i: usize = 0;
     while i < k {
-        put(list[i]);
+        put(to, list[i])?;
         i += 1;
     }
+    Ok(())
 }
 
 // 1 for yes, 0 for no.
@@ -126,24 +127,39 @@ pub fn flag(b: bool) -> u64 {
 }
 
 // What is told, after its name: number, place and value.
-pub fn put_answer(name: &[u8], a: Answer) {
-    text(name);
-    put(a.number());
-    put(a.place() as u64);
-    put(a.value());
+pub fn put_answer(to: &impl Print, name: &[u8], a: Answer) -> io::Result<()> {
+    text(to, name)?;
+    put(to, a.number())?;
+    put(to, a.place() as u64)?;
+    put(to, a.value())
 }
 
-pub fn put_yes_no(name: &[u8], a: YesNo) {
-    text(name);
-    put(a.number());
-    put(a.place() as u64);
-    put(flag(a.yes()));
+pub fn put_yes_no(to: &impl Print, name: &[u8], a: YesNo) -> io::Result<()> {
+    text(to, name)?;
+    put(to, a.number())?;
+    put(to, a.place() as u64)?;
+    put(to, flag(a.yes()))
 }
 
-// The numbers of standard input, as many as there is room for.
-pub fn read_numbers(bytes: &mut [u8], list: &mut [u64]) -> usize
-    ensures { result ≤ length list.new }
+// Reads until the input ends or the room is full, and counts what came.
+fn read_full<R: Read>(from: &mut R, bytes: &mut [u8]) -> io::Result<usize>
+    ensures { IfOk result (λ n. n ≤ length bytes.new) }
 {
-    let n = io::read_full(0, bytes);
-    numbers(&bytes[..n], list)
+    let mut n: usize = 0;
+    while n < bytes.len() {
+        let got = from.read(&mut bytes[n..])?;
+        if got == 0 {
+            return Ok(n);
+        }
+        n += got;
+    }
+    Ok(n)
+}
+
+// The numbers of an input, as many as there is room for.
+pub fn read_numbers<R: Read>(from: &mut R, bytes: &mut [u8], list: &mut [u64]) -> io::Result<usize>
+    ensures { IfOk result (λ n. n ≤ length list.new) }
+{
+    let n = read_full(from, bytes)?;
+    Ok(numbers(&bytes[..n], list))
 }
