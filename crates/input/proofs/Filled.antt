@@ -1,5 +1,5 @@
 -- What two reads into a buffer, one behind the other, gave is what the reader lost (`filled_more`). Assumes nothing.
-use Rattle.std.proofs.Common.{◌≡◌, ℕ, ◌+◌, List, ◌++◌, None, Some, ap, ◌∙◌, sym, append_assoc, length, take, drop}
+use Rattle.std.proofs.Common.{◌≡◌, ℕ, ◌+◌, List, ◌++◌, None, Some, ap, ◌∙◌, sym, append_assoc, take, drop}
 use Rattle.std.proofs.Math.Seq.{take-add}
 use Rattle.std.specs.declared.option.Option.{Option}
 use Rattle.std.specs.Io.KnownBytes.{Consumes}

@@ -97,3 +97,75 @@ pub fn read_all<R: Read>(from: &mut R, buf: &mut [u8]) -> io::Result<Input>
         ended: false,
     })
 }
+
+#[cfg(test)]
+mod tests {
+    use super::*;
+    use std::io::{Error, ErrorKind};
+
+    // Gives a text a byte at a time, and fails at one place of it.
+    #[derive(Drop)]
+    struct Bytewise<'a> {
+        text: &'a [u8],
+        at: usize,
+        fails_at: usize,
+    }
+
+    impl Read for Bytewise<'_> {
+        fn read(&mut self, buf: &mut [u8]) -> io::Result<usize> {
+            if self.at == self.fails_at {
+                return Err(Error::from(ErrorKind::Other));
+            }
+            if self.text.len() <= self.at || buf.is_empty() {
+                return Ok(0);
+            }
+            buf[0] = self.text[self.at];
+            self.at += 1;
+            Ok(1)
+        }
+    }
+
+    fn slowly(text: &[u8], fails_at: usize) -> Bytewise<'_> {
+        Bytewise {
+            text,
+            at: 0,
+            fails_at,
+        }
+    }
+
+    #[test]
+    fn a_line_is_read_as_far_as_its_end(rt: HostRuntime) -> io::Result<()> {
+        let mut from = slowly(b"ab\ncd\n", 6);
+        let mut buf = [7u8; line::MOST_BYTES];
+        let came = read_line(&mut from, &mut buf)?;
+        assert!(rt; came.bytes == 3 && !came.ended);
+        assert!(rt; buf[0] == b'a' && buf[1] == b'b' && buf[2] == b'\n' && buf[3] == 7);
+        assert!(rt; from.at == 3);
+        Ok(())
+    }
+
+    #[test]
+    fn an_input_with_no_line_end_is_read_to_its_end(rt: HostRuntime) -> io::Result<()> {
+        let mut buf = [7u8; line::MOST_BYTES];
+        let came = read_line(&mut slowly(b"ab", 3), &mut buf)?;
+        assert!(rt; came.bytes == 2 && came.ended);
+        Ok(())
+    }
+
+    #[test]
+    fn all_of_an_input_is_read_or_what_there_is_room_for(rt: HostRuntime) -> io::Result<()> {
+        let mut buf = [7u8; 4];
+        let came = read_all(&mut slowly(b"a\nb", 9), &mut buf)?;
+        assert!(rt; came.bytes == 3 && came.ended);
+        let came = read_all(&mut slowly(b"a\nb\nc", 9), &mut buf)?;
+        assert!(rt; came.bytes == 4 && !came.ended);
+        Ok(())
+    }
+
+    #[test]
+    fn a_read_that_fails_in_mid_line_is_an_error(rt: HostRuntime) {
+        let mut buf = [7u8; line::MOST_BYTES];
+        assert!(rt; read_line(&mut slowly(b"ab\n", 2), &mut buf).is_err());
+        assert!(rt; read_all(&mut slowly(b"ab\n", 2), &mut buf).is_err());
+    }
+}

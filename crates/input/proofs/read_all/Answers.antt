@@ -1,4 +1,4 @@
-use Rattle.std.proofs.Common.{[], refl, arith}
+use Rattle.std.proofs.Common.{arith}
 use Rattle.input.proofs.Filled.{filled_more}
 use Rattle.input.proofs.read_all.Goals as goal
 

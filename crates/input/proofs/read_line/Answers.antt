@@ -1,6 +1,5 @@
-use Rattle.std.proofs.Common.{◌≤◌, ◌+◌, length, [], refl, inl, arith}
+use Rattle.std.proofs.Common.{inl, arith}
 use Rattle.input.proofs.Filled.{filled_more}
-use Rattle.scan.specs.Laws.{true-false}
 use Rattle.input.specs.Buffers.{end_within}
 use Rattle.input.proofs.read_line.Goals as goal
 
