@@ -14,7 +14,7 @@ use Rattle.paths.specs.Lists.{ahead, ahead-at, ahead-length, Laid}
 use Rattle.cube_math.specs.Doors.{Doors}
 use Rattle.cube_math.specs.Request.{doors_same, request_same}
 use Rattle.cube_math.specs.Plain.{bit-full, full-below, cube_request}
-use Rattle.cube_rows.specs.Grid.{row_room, count, hops, hops-length, hops-same, target, lone-target, Sets, only_rest}
+use Rattle.cube_rows.specs.Grid.{row_room, hops, hops-length, hops-same, target, lone-target, Sets, only_rest}
 use Rattle.cube_split.specs.Plan.{Asked, Planned}
 
 -- below i + 1 and not i

@@ -1,5 +1,7 @@
 // A fan through doors in a cube, built by recursion over the dimensions in a grid (crate `cube_rows`), which is the lent places themselves.
 // Inner: `fan_through` is called by the planners that check a request first, and so meet its `requires`.
+#![tactic(auto)]
+
 ghost use Rattle.std.specs.Prelude.{◌≡◌, ℕ, ◌+◌, ◌-◌, ◌*◌, ◌^◌, ◌<◌, ◌≤◌, length, get_or};
 ghost use Rattle.cube_split.specs.Plan.{Asked, Planned};
 ghost use Rattle.cube_split.specs.Fan.{Begun, Settled, Spread, Sought, Given};
