@@ -9,7 +9,7 @@ use Rattle.paths.specs.Mesh.{width}
 use Rattle.paths.specs.Fan.{relay, hops, Fan}
 use Rattle.paths.specs.Lists.{Chain, ahead, ahead-cons}
 use Rattle.paths.specs.Read.{read, in_path, fan_lists}
-use Rattle.cube.specs.Cube.{linked, cube}
+use Rattle.cube.specs.Cube.{cube}
 use Rattle.cube.specs.Links.{flip-linked}
 use Rattle.cube_math.specs.Doors.{Walk, Door, Doors}
 use Rattle.cube_math.specs.Masks.{less, bit-less}

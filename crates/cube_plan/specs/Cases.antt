@@ -1,6 +1,6 @@
 -- Case G (`case_g`): in the cube of 2 dimensions the paths 0, 2, 3 and 0, 1 are a fan from 0 to 3 and 1, and there is no other. Assumes nothing.
 use Rattle.std.specs.Prelude.{ℕ, ◌≡◌, refl, List, [], ◌∷◌}
-use Rattle.std.proofs.Common.{ap, ◌∙◌, inl, inr, ⊎_elim, arith}
+use Rattle.std.proofs.Common.{ap, ◌∙◌, inl, ⊎_elim, arith}
 use Rattle.std.specs.Int.Count.{ones}
 use Rattle.scan.specs.Scan.{seek, any, among}
 use Rattle.paths.specs.Fan.{filler, relay, hops, Fan}

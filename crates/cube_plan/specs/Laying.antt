@@ -8,12 +8,12 @@ use Rattle.bits.specs.Bit.{bit, flip}
 use Rattle.bits.specs.Laws.{bit-lt, flip-lt, flip-moves}
 use Rattle.scan.specs.Scan.{pick}
 use Rattle.scan.specs.Laws.{true-false}
-use Rattle.answers.specs.Order.{first, refuse}
+use Rattle.answers.specs.Order.{refuse}
 use Rattle.answers.specs.declared.Refusal.{Refusal}
 use Rattle.answers.specs.declared.Refusal.TheVariants.{NoRoom}
 use Rattle.answers.specs.declared.Checked.{Checked}
 use Rattle.answers.specs.declared.Checked.TheVariants as checked
-use Rattle.requests.specs.Sound.{Sound, sound}
+use Rattle.requests.specs.Sound.{Sound}
 use Rattle.requests.specs.Planned.{Planned, not-both, refusal, granted}
 use Rattle.paths.specs.Mesh.{width}
 use Rattle.paths.specs.Fan.{filler, relay, hops, Fan}

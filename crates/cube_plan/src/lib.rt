@@ -1,4 +1,6 @@
 // The planners of the cube: paths from a relay to others that meet nowhere but in it.
+#![tactic(auto)]
+
 ghost use Rattle.std.specs.Prelude.{◌≡◌, true, ◌+◌, ◌-◌, ◌*◌, ◌^◌, ◌≤◌, leb, ltb};
 ghost use Rattle.std.specs.Int.Count.{ones};
 ghost use Rattle.scan.specs.Scan.{pick};
