@@ -1,13 +1,13 @@
 -- All choices together: from what the parts give to the facts that the plan rests on (`Chose`). Assumes nothing.
-use Rattle.std.specs.Prelude.{ℕ, zero, suc, ◌+◌, ◌-◌, ◌^◌, ◌≤◌, ◌<◌, ◌≡◌, refl, ◌≢◌, List, [], ◌∷◌, length}
-use Rattle.std.proofs.Common.{sym, ap, ◌∙◌, subst, ⊎_elim, arith, pow_mono}
+use Rattle.std.specs.Prelude.{ℕ, zero, suc, ◌+◌, ◌-◌, ◌^◌, ◌≤◌, ◌<◌, ◌≡◌, refl, ◌≢◌, List, [], ◌∷◌}
+use Rattle.std.proofs.Common.{sym, ◌∙◌, subst, ⊎_elim, arith, pow_mono}
 use Rattle.std.specs.Int.Bits.{bit_or}
 use Rattle.std.specs.Int.Count.{ones}
 use Rattle.bits.specs.Bit.{bit, flip}
-use Rattle.bits.specs.Laws.{bit-cases, clash}
+use Rattle.bits.specs.Laws.{bit-cases}
 use Rattle.cube_math.specs.Masks.{at, less}
 use Rattle.cube_math.specs.Choose.{Chosen, Used}
-use Rattle.cube_math.specs.Plain.{bit-full, full-below}
+use Rattle.cube_math.specs.Plain.{full-below}
 use Rattle.two_math.specs.Gates.{Gates}
 use Rattle.two_math.specs.Sort.{Ask, Sorts, sorts_from, Keeps, keeps_from, Ends, ends-from, Classes, doors_enough}
 use Rattle.two_math.specs.Shut.{Opening, Shuts, keep-below, shuts_when}

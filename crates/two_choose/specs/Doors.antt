@@ -1,16 +1,15 @@
 -- Ends of block paths and the doors that stay shut for them: what the code's arrays and masks hold. Assumes nothing.
-use Rattle.std.specs.Prelude.{ℕ, ◌+◌, ◌-◌, ◌^◌, ◌≤◌, ◌<◌, ◌≡◌, refl, ◌⊎◌, ◌≢◌, List, Bool, true, false, length, get_or, set, replicate, eqb}
+use Rattle.std.specs.Prelude.{ℕ, ◌+◌, ◌-◌, ◌^◌, ◌≤◌, ◌<◌, ◌≡◌, ◌⊎◌, ◌≢◌, List, Bool, true, false, length, set, eqb}
 use Rattle.std.proofs.Common.{sym, ap, ◌∙◌, subst, inl, inr, ⊎_elim, arith, length-set, get_or-set_same, get_or-set_other, eq-eqb, ne_eqb}
 use Rattle.std.proofs.Math.Decide.{ℕ_discrete}
-use Rattle.std.proofs.lemmas.List.{length-replicate}
 use Rattle.std.specs.Int.Count.{ones, ones-ones}
 use Rattle.bits.specs.Bit.{bit, flip, Lowest}
-use Rattle.bits.specs.Laws.{bit-cases, bit-none, clash}
+use Rattle.bits.specs.Laws.{bit-none, clash}
 use Rattle.cube_math.specs.Masks.{at, less}
 use Rattle.cube_math.specs.Choose.{less-on, less-or}
 use Rattle.cube_math.specs.Plain.{bit-full}
 use Rattle.cube_math.specs.First.{part-all}
-use Rattle.two_math.specs.Shut.{Opening, opening-none, opening-more, opening-left}
+use Rattle.two_math.specs.Shut.{Opening, opening-more, opening-left}
 
 -- ---- the blocks behind the gates
 

@@ -1,5 +1,5 @@
 -- Sets of targets as masks, made by tests: what the functions that make them promise, and how they are put together. Assumes nothing.
-use Rattle.std.specs.Prelude.{ℕ, ◌+◌, ◌-◌, ◌^◌, ◌≤◌, ◌<◌, ◌≡◌, refl, ◌⊎◌, ◌≢◌, List, Bool, true, false, get_or, eqb}
+use Rattle.std.specs.Prelude.{ℕ, ◌+◌, ◌-◌, ◌^◌, ◌<◌, ◌≡◌, refl, ◌≢◌, List, Bool, true, false, eqb}
 use Rattle.std.proofs.Common.{sym, ap, ◌∙◌, subst, ⊎_elim, arith}
 use Rattle.std.specs.Int.Count.{ones}
 use Rattle.std.specs.Int.Bits.{bit_or, bit_xor}
@@ -7,12 +7,12 @@ use Rattle.bits.specs.Bit.{bit, flip, Lowest, OneBit}
 use Rattle.bits.specs.Laws.{bit-cases, bit-none, bit-on, bit_off, clash, flip-other, bit-pow-same, pow-bit, ones_clear, flip-eq}
 use Rattle.scan.specs.Laws.{true-false}
 use Rattle.cube_math.specs.Masks.{at, less, some-bit}
-use Rattle.cube_math.specs.Choose.{Chosen, Used, cleared, less-on, less-or}
+use Rattle.cube_math.specs.Choose.{Chosen, cleared, less-on, less-or}
 use Rattle.cube_math.specs.Plain.{bit-full, full-below}
 use Rattle.cube_math.specs.Loops.{plus_or}
 use Rattle.bits.specs.Parts.{xor-flip, flip_is_xor}
 use Rattle.two_math.specs.Sort.{Behind, Shared}
-use Rattle.two_gate.specs.Says.{Tells, tells_no, tells_yes, Small}
+use Rattle.two_gate.specs.Says.{Tells}
 use Rattle.two_math.specs.Loops.{chosen_yes, chosen_no, Using, using_more, Classing, classing_new, classing_old}
 
 -- the indices below k whose value is v

@@ -1,4 +1,6 @@
 // Which targets stand where, as masks: the choices of the two-level planner. Inner: the planner meets each `requires`.
+#![tactic(auto)]
+
 ghost use Rattle.std.specs.Prelude.{◌≡◌, ℕ, ◌^◌, ◌<◌, ◌≤◌};
 ghost use Rattle.bits.specs.Bit.{bit};
 ghost use Rattle.cube_math.specs.Choose.{Used};
