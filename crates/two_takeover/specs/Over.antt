@@ -1,28 +1,20 @@
 -- Who takes over the block path through the door p0, and by which tail: what the parts of the search give. Assumes nothing.
-use Rattle.std.specs.Prelude.{ℕ, zero, suc, ◌+◌, ◌-◌, ◌*◌, ◌^◌, ◌≤◌, ◌<◌, ◌≡◌, refl, ◌⊎◌, ◌≢◌, Bool, true, false, List, [], ◌∷◌, ◌++◌, length, get_or, set, take, eqb}
-use Rattle.std.proofs.Common.{sym, ap, ◌∙◌, subst, inl, inr, ⊎_elim, arith, add-one, length-set, length-append, length-take, take-suc, get_or-set_same, take-suc-set, eq-eqb}
-use Rattle.std.proofs.Math.Decide.{ℕ_discrete}
+use Rattle.std.specs.Prelude.{ℕ, zero, suc, ◌+◌, ◌-◌, ◌*◌, ◌^◌, ◌<◌, ◌≡◌, refl, ◌⊎◌, ◌≢◌, Bool, true, List, [], ◌∷◌, ◌++◌, length, get_or, eqb}
+use Rattle.std.proofs.Common.{sym, ap, ◌∙◌, subst, ⊎_elim, arith, length-append, eq-eqb}
 use Rattle.std.proofs.Math.ListN.{get_or-append}
-use Rattle.std.proofs.lemmas.List.{take-set-le, get_or_at}
-use Rattle.std.proofs.Math.Seq.{take-append_seam}
+use Rattle.std.proofs.lemmas.List.{get_or_at}
 use Rattle.std.specs.Int.Bits.{bit_xor}
 use Rattle.std.proofs.lemmas.Nat.{xor_lt}
 use Rattle.std.specs.Int.Count.{ones}
-use Rattle.cube_math.specs.Masks.{at}
 use Rattle.bits.specs.Bit.{bit, flip, Lowest}
-use Rattle.bits.specs.Laws.{bit-none, bit-on, clash, flip-lt, flip-other, lt-or, ones_clear, xor-zero-eq, flip-moves, flip-eq, same_or}
-use Rattle.cube_math.specs.Doors.{In, Fresh, Walk}
+use Rattle.bits.specs.Laws.{bit-none, bit-on, clash, flip-other, lt-or, ones_clear, xor-zero-eq, flip-moves, flip-eq, same_or}
+use Rattle.cube_math.specs.Doors.{Walk}
 use Rattle.cube_math.specs.Choose.{cleared}
 use Rattle.cube_math.specs.Plain.{full-below}
 use Rattle.bits.specs.Parts.{bit_below}
-use Rattle.cube_math.specs.Single.{rank, rank_less}
 use Rattle.two_write.specs.Row.{hops, hops-length}
-use Rattle.two_math.specs.Relays.{Relay}
-use Rattle.two_math.specs.Through.{Crosses}
-use Rattle.two_math.specs.Crowd.{Cut}
-use Rattle.two_math.specs.Loops.{Strolling, strolling_none, strolling_more, strolling_short, Unhit, unhit_none, unhit_more, strolling_cut, last, walk_split, walk_hop, door-of}
-use Rattle.two_gate.specs.Says.{Tells, tells_no, tells_yes}
-use Rattle.two_write.specs.Walked.{Next}
+use Rattle.two_math.specs.Loops.{last, walk_split, walk_hop, door-of}
+use Rattle.two_gate.specs.Says.{Tells}
 
 -- ---- the crowd
 

@@ -1,14 +1,13 @@
 -- The tail of a path that takes over: the walk in the crowd's block up to the first target that it meets. Assumes nothing.
-use Rattle.std.specs.Prelude.{ℕ, suc, ◌+◌, ◌-◌, ◌^◌, ◌≤◌, ◌<◌, ◌≡◌, refl, ◌⊎◌, ◌≢◌, List, [], ◌∷◌, ◌++◌, length, get_or, set, take}
-use Rattle.std.proofs.Common.{sym, ap, ◌∙◌, subst, inl, inr, ⊎_elim, arith, add-one, length-set, length-append, take-suc-set}
-use Rattle.cube_math.specs.Masks.{at}
+use Rattle.std.specs.Prelude.{ℕ, suc, ◌+◌, ◌-◌, ◌^◌, ◌≤◌, ◌<◌, ◌≡◌, refl, ◌⊎◌, ◌≢◌, List, [], ◌∷◌, ◌++◌, length, set, take}
+use Rattle.std.proofs.Common.{sym, ap, ◌∙◌, subst, inl, inr, arith, add-one, length-set, length-append, take-suc-set}
 use Rattle.bits.specs.Bit.{bit, flip}
 use Rattle.bits.specs.Laws.{flip-lt}
 use Rattle.cube_math.specs.Single.{rank, rank_less}
 use Rattle.two_math.specs.Crowd.{Cut}
 use Rattle.two_math.specs.Loops.{Strolling, strolling_none, strolling_more, strolling_short, Unhit, unhit_none, unhit_more, strolling_cut}
 use Rattle.two_write.specs.Walked.{Next, dim-below}
-use Rattle.two_takeover.specs.Over.{Meets, Hit, Met}
+use Rattle.two_takeover.specs.Over.{Hit, Met}
 
 -- what may be asked: towards the slot `to` of a gated target of b
 pub record TailAsk (m k : ℕ) (tb tp gate : ℕ → ℕ) (gated b enter to : ℕ) : Type 0 where

@@ -1,6 +1,6 @@
 -- The search for whoever takes over, whole: what may be asked (`OverAsk`), and what it gives (`Over`). Assumes nothing.
 use Rattle.std.specs.Prelude.{ℕ, ◌+◌, ◌-◌, ◌^◌, ◌≤◌, ◌<◌, ◌≡◌, refl, ◌≢◌, List, ◌∷◌, length, take}
-use Rattle.std.proofs.Common.{sym, ap, ◌∙◌, subst, inr, arith}
+use Rattle.std.proofs.Common.{sym, ap, ◌∙◌, inr, arith}
 use Rattle.cube_math.specs.Masks.{at}
 use Rattle.bits.specs.Bit.{bit, flip}
 use Rattle.cube_math.specs.Doors.{Walk}

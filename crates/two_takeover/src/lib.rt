@@ -1,4 +1,6 @@
 // The block path through the door p0, where it ends in a crowd: a target of that crowd takes it over. Inner: the planner meets each `requires`.
+#![tactic(auto)]
+
 ghost use Rattle.std.specs.Prelude.{◌≡◌, true, ◌⊎◌, ℕ, ◌^◌, ◌<◌, ◌≤◌, length, take};
 ghost use Rattle.cube_math.specs.Masks.{at};
 ghost use Rattle.two_gate.specs.Says.{Tells};

@@ -1,0 +1,11 @@
+-- `two_takeover::tail_of` meets its contract: the invariant is `Tailing`. Assumes nothing.
+use Rattle.cube_math.specs.Masks.{at}
+use Rattle.cube_math.specs.Single.{rank}
+use Rattle.two_takeover.specs.Tail.{Tailing}
+use Rattle.two_takeover.proofs.tail_of.Given as goal
+
+abbrev pub invariant-loop-who : goal.invariant-loop-who
+invariant-loop-who l = Tailing l.m l.k (at l.blocks) (at l.slots) (at l.gates) l.gated l.b l.enter l.to l.tail l.len l.here l.who
+
+abbrev pub decreases-loop-who : goal.decreases-loop-who
+decreases-loop-who l = rank l.to l.here
