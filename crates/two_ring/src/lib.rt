@@ -1,4 +1,6 @@
 // The planner of order 1, a ring of eight relays: right to the nearer target, left to the other. Inner: the planner meets each `requires`.
+#![tactic(auto)]
+
 ghost use Rattle.std.specs.Prelude.{◌≡◌, ◌+◌, ◌*◌, ◌<◌, ◌≤◌, length};
 ghost use Rattle.std.proofs.lemmas.List.Edits.{sets};
 ghost use Rattle.two_parts.specs.Two.{two};
