@@ -1,10 +1,11 @@
 // Fans: dimensions, source, doors; the targets, with their number before them; how many places and counts are lent, all 77 before. A line has what was
 // asked, the number and the place that came back, and what the slices then hold, with two places more than were lent.
-ghost use Rattle.std.specs.Prelude.{◌≤◌, ◌<◌, length};
+ghost use Rattle.std.specs.Prelude.{◌≤◌, ◌<◌, length, IfOk};
 
 use answers::Checked;
 use cube::Size;
 use script::{item, put, put_first, run, text};
+use std::io;
 
 // What is asked.
 #[derive(Clone, Copy)]
@@ -15,30 +16,30 @@ struct Request {
     through: bool,
 }
 
-fn put_request(r: Request, targets: &[u64]) {
+fn put_request(to: &impl Print, r: Request, targets: &[u64]) -> io::Result<()> {
     if r.through {
-        text(b"through");
+        text(to, b"through")?;
     } else {
-        text(b"plan");
+        text(to, b"plan")?;
     }
-    put(r.size.0);
-    put(r.source);
-    put(r.doors);
-    text(b" to");
-    put_first(targets, targets.len());
-    text(b":");
+    put(to, r.size.0)?;
+    put(to, r.source)?;
+    put(to, r.doors)?;
+    text(to, b" to")?;
+    put_first(to, targets, targets.len())?;
+    text(to, b":")
 }
 
 // Number and place.
-fn put_checked(checked: Checked) {
+fn put_checked(to: &impl Print, checked: Checked) -> io::Result<()> {
     match checked {
         Checked::Fine => {
-            put(0);
-            put(0);
+            put(to, 0)?;
+            put(to, 0)
         }
         Checked::Refused(why) => {
-            put(why.number());
-            put(why.place() as u64);
+            put(to, why.number())?;
+            put(to, why.place() as u64)
         }
     }
 }
@@ -52,30 +53,31 @@ fn plan(r: Request, targets: &[u64], places: &mut [u64], counts: &mut [u64]) -> 
 
 // A fan into so many places and counts.
 fn ask(
+    to: &impl Print,
     r: Request,
     targets: &[u64],
     room: usize,
     counted: usize,
     places: &mut [u64],
     counts: &mut [u64],
-) {
+) -> io::Result<()> {
     let a = script::least(room, places.len());
     let b = script::least(counted, counts.len());
     let shown = a + 2;
     let told = b + 2;
-    put_request(r, targets);
-    put_checked(plan(r, targets, &mut places[..a], &mut counts[..b]));
-    text(b" places");
-    put_first(places, shown);
-    text(b" counts");
-    put_first(counts, told);
-    text(b"\n");
+    put_request(to, r, targets)?;
+    put_checked(to, plan(r, targets, &mut places[..a], &mut counts[..b]))?;
+    text(to, b" places")?;
+    put_first(to, places, shown)?;
+    text(to, b" counts")?;
+    put_first(to, counts, told)?;
+    text(to, b"\n")
 }
 
 // The case that stands at a place; where the next one stands.
-pub fn case(list: &[u64], at: usize, through: bool) -> usize
+pub fn case(to: &impl Print, list: &[u64], at: usize, through: bool) -> io::Result<usize>
     requires { at ≤ length list.now }
-    ensures { at < result }
+    ensures { IfOk result (λ next. at < next) }
 {
     let mut places = [77u64; 64];
     let mut counts = [77u64; 64];
@@ -88,12 +90,13 @@ pub fn case(list: &[u64], at: usize, through: bool) -> usize
     let targets = run(list, at + 3);
     let next = at + 4 + targets.len();
     ask(
+        to,
         r,
         targets,
         item(list, next) as usize,
         item(list, next + 1) as usize,
         &mut places,
         &mut counts,
-    );
-    next + 2
+    )?;
+    Ok(next + 2)
 }

@@ -1,8 +1,11 @@
 // The program `graph`: reads a line `cube 3` or `two 2` from standard input and writes that mesh as a DIMACS edge file to standard output, as soon as the line end has come. What is no such line
 // is answered `refused 10 0`, a mesh that is not exported `refused N 0`.
+#![tactic(auto)]
+
 use answers::{Answer, Refusal};
 use graph_line::Named;
 use mesh::Mesh;
+use std::io;
 
 // The text of a mesh, or of why there is none.
 fn export(mesh: Mesh, out: &mut [u8]) -> Answer {
@@ -26,18 +29,20 @@ fn answer(text: &[u8], out: &mut [u8]) -> Answer {
 }
 
 // Writes the first bytes of a slice.
-fn say(out: &[u8], bytes: u64) {
+fn say(to: &impl Print, out: &[u8], bytes: u64) -> io::Result<()> {
     let n = bytes as usize;
     if n <= out.len() {
-        io::write_all(libc::STDOUT_FILENO, &out[..n]);
+        to.write_all(&out[..n])?;
     }
+    Ok(())
 }
 
-fn main() {
+fn main(rt: HostRuntime) -> io::Result<()> {
     let mut text = [0u8; line::MOST_BYTES];
     let mut out = [0u8; dimacs::MOST_BYTES];
-    let n = input::read_line(&mut text).bytes;
+    let n = input::read_line(&mut rt.stdin(), &mut text)?.bytes;
     if let Answer::Value(said) = answer(&text[..n], &mut out) {
-        say(&out, said);
+        say(&rt, &out, said)?;
     }
+    Ok(())
 }

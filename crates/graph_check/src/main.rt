@@ -1,8 +1,11 @@
 // The program `graph_check`: reads a line `cube 3` or `two 2` from standard input, then a DIMACS edge file to the end of the input, and writes `yes` where the file is that mesh with each link once,
 // else `refused N P` with the number and the line. What is no such line is answered `refused 10 0`, an input of more than 262,144 bytes `refused 8 0`.
+#![tactic(auto)]
+
 use graph_line::Named;
 use mesh::Mesh;
 use scan::Spot;
+use std::io;
 
 // The most bytes of the input, its first line included.
 const MOST: usize = 262144;
@@ -48,20 +51,20 @@ fn judged(text: &[u8]) -> Said {
     )
 }
 
-fn say(said: Said) {
+fn say(to: &impl Print, said: Said) -> io::Result<()> {
     if said.number == 0 {
-        io::write_all(libc::STDOUT_FILENO, b"yes\n");
-        return;
+        return to.write_all(b"yes\n");
     }
     let mut out = [0u8; 50];
     let n = graph_line::put_refused(said.number, said.line, &mut out);
     if n <= out.len() {
-        io::write_all(libc::STDOUT_FILENO, &out[..n]);
+        to.write_all(&out[..n])?;
     }
+    Ok(())
 }
 
-fn main() {
+fn main(rt: HostRuntime) -> io::Result<()> {
     let mut text = [0u8; 262145];
-    let n = input::read_all(&mut text).bytes;
-    say(judged(&text[..n]));
+    let n = input::read_all(&mut rt.stdin(), &mut text)?.bytes;
+    say(&rt, judged(&text[..n]))
 }

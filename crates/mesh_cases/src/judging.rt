@@ -1,11 +1,12 @@
 // Sets of paths judged, and their survivors told: kind, size and source; then targets, places, counts, stopped relays and cuts, each with its length before
 // it; then how many places each of three columns has. A line has what the judge tells (number, path, place), what survivors tells (the same and the
 // count), and the columns, all 9 before, as they are afterwards.
-ghost use Rattle.std.specs.Prelude.{◌≤◌, ◌<◌, length};
+ghost use Rattle.std.specs.Prelude.{◌≤◌, ◌<◌, length, IfOk};
 
 use judge::Verdict;
 use mesh::Mesh;
 use script::{item, put, put_first, run, text};
+use std::io;
 use survivors::Tally;
 
 // How many places the columns have.
@@ -16,23 +17,24 @@ struct Room {
     wholes: usize,
 }
 
-fn put_verdict(v: Verdict) {
-    text(b"judge");
-    put(v.number());
-    put(v.path() as u64);
-    put(v.place() as u64);
+fn put_verdict(to: &impl Print, v: Verdict) -> io::Result<()> {
+    text(to, b"judge")?;
+    put(to, v.number())?;
+    put(to, v.path() as u64)?;
+    put(to, v.place() as u64)
 }
 
-fn put_tally(t: Tally) {
-    text(b" survivors");
-    put(t.number());
-    put(t.path() as u64);
-    put(t.place() as u64);
-    put(t.whole());
+fn put_tally(to: &impl Print, t: Tally) -> io::Result<()> {
+    text(to, b" survivors")?;
+    put(to, t.number())?;
+    put(to, t.path() as u64)?;
+    put(to, t.place() as u64)?;
+    put(to, t.whole())
 }
 
 // The survivors, into a part of each column, and the columns.
 fn tell(
+    to: &impl Print,
     mesh: Mesh,
     source: u64,
     targets: &[u64],
@@ -44,7 +46,7 @@ fn tell(
     ends: &mut [u64],
     hops: &mut [u64],
     wholes: &mut [u64],
-) {
+) -> io::Result<()> {
     let a = script::least(room.ends, ends.len());
     let b = script::least(room.hops, hops.len());
     let c = script::least(room.wholes, wholes.len());
@@ -61,16 +63,17 @@ fn tell(
         &mut hops[..b],
         &mut wholes[..c],
     );
-    put_tally(t);
-    text(b" targets");
-    put_first(ends, a);
-    text(b" hops");
-    put_first(hops, b);
-    text(b" whole");
-    put_first(wholes, c);
+    put_tally(to, t)?;
+    text(to, b" targets")?;
+    put_first(to, ends, a)?;
+    text(to, b" hops")?;
+    put_first(to, hops, b)?;
+    text(to, b" whole")?;
+    put_first(to, wholes, c)
 }
 
 fn both(
+    to: &impl Print,
     mesh: Mesh,
     source: u64,
     targets: &[u64],
@@ -79,12 +82,13 @@ fn both(
     stopped: &[u64],
     cuts: &[u64],
     room: Room,
-) {
+) -> io::Result<()> {
     let mut ends = [9u64; 40];
     let mut hops = [9u64; 40];
     let mut wholes = [9u64; 40];
-    put_verdict(judge::judge(mesh, source, targets, places, counts));
+    put_verdict(to, judge::judge(mesh, source, targets, places, counts))?;
     tell(
+        to,
         mesh,
         source,
         targets,
@@ -96,14 +100,14 @@ fn both(
         &mut ends,
         &mut hops,
         &mut wholes,
-    );
-    text(b"\n");
+    )?;
+    text(to, b"\n")
 }
 
 // The case that stands at a place; where the next one stands.
-pub fn case(list: &[u64], at: usize) -> usize
+pub fn case(to: &impl Print, list: &[u64], at: usize) -> io::Result<usize>
     requires { at ≤ length list.now }
-    ensures { at < result }
+    ensures { IfOk result (λ next. at < next) }
 {
     let mesh = Mesh {
         kind: item(list, at),
@@ -125,6 +129,7 @@ pub fn case(list: &[u64], at: usize) -> usize
         wholes: item(list, f + 2) as usize,
     };
     both(
+        to,
         mesh,
         item(list, at + 2),
         targets,
@@ -133,6 +138,6 @@ pub fn case(list: &[u64], at: usize) -> usize
         stopped,
         cuts,
         room,
-    );
-    f + 3
+    )?;
+    Ok(f + 3)
 }

@@ -1,45 +1,48 @@
 // A pair of the two-level mesh: order, block, slot, block, slot. A line has what is told of it by parts and then by numbers: the source's number, linked,
 // next hop, the target as the source sees it, distance, hops; of each the number, the place and the value.
-ghost use Rattle.std.specs.Prelude.{◌≤◌, ◌<◌, length};
+ghost use Rattle.std.specs.Prelude.{◌≤◌, ◌<◌, length, IfOk};
 
 use script::{item, put_answer, put_yes_no, text};
+use std::io;
 use two::{Block, Order, Slot};
 
-fn by_parts(order: Order, b: Block, p: Slot, c: Block, q: Slot) {
+fn by_parts(to: &impl Print, order: Order, b: Block, p: Slot, c: Block, q: Slot) -> io::Result<()> {
     let mut out = [0u64; 256];
-    put_answer(b"parts", two::number(order, b, p));
-    put_yes_no(b" linked", two::linked_parts(order, b, p, c, q));
-    put_answer(b" next", two::next_hop_parts(order, b, p, c, q));
-    put_answer(b" seen", two::seen_parts(order, b, p, c, q));
+    put_answer(to, b"parts", two::number(order, b, p))?;
+    put_yes_no(to, b" linked", two::linked_parts(order, b, p, c, q))?;
+    put_answer(to, b" next", two::next_hop_parts(order, b, p, c, q))?;
+    put_answer(to, b" seen", two::seen_parts(order, b, p, c, q))?;
     put_answer(
+        to,
         b" distance",
         two_distance::distance_parts(order, b, p, c, q),
-    );
-    put_answer(b" hops", two::route_parts(order, b, p, c, q, &mut out));
-    text(b"\n");
+    )?;
+    put_answer(to, b" hops", two::route_parts(order, b, p, c, q, &mut out))?;
+    text(to, b"\n")
 }
 
 // The target as the source sees it, by numbers.
-fn by_numbers(order: Order, source: u64, target: u64) {
-    put_answer(b"seen", two::seen(order, source, target));
-    text(b"\n");
+fn by_numbers(to: &impl Print, order: Order, source: u64, target: u64) -> io::Result<()> {
+    put_answer(to, b"seen", two::seen(order, source, target))?;
+    text(to, b"\n")
 }
 
 // The case that stands at a place; where the next one stands.
-pub fn case(list: &[u64], at: usize) -> usize
+pub fn case(to: &impl Print, list: &[u64], at: usize) -> io::Result<usize>
     requires { at ≤ length list.now }
-    ensures { at < result }
+    ensures { IfOk result (λ next. at < next) }
 {
     let order = Order(item(list, at));
     let b = Block(item(list, at + 1));
     let p = Slot(item(list, at + 2));
     let c = Block(item(list, at + 3));
     let q = Slot(item(list, at + 4));
-    by_parts(order, b, p, c, q);
+    by_parts(to, order, b, p, c, q)?;
     by_numbers(
+        to,
         order,
         two::number(order, b, p).value(),
         two::number(order, c, q).value(),
-    );
-    at + 5
+    )?;
+    Ok(at + 5)
 }

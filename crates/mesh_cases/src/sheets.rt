@@ -1,11 +1,12 @@
 // Sheets written and read. The writer is asked by kind, size and source; targets, places and counts, each with its length before it; and how many bytes
 // are lent. The reader is asked by bytes, with their length before them; and how many places, counts and target places are lent. Lent slices hold 9
 // before, bytes 249, and are written whole after what was told.
-ghost use Rattle.std.specs.Prelude.{◌≤◌, ◌<◌, length};
+ghost use Rattle.std.specs.Prelude.{◌≤◌, ◌<◌, length, IfOk};
 
 use mesh::Mesh;
 use script::{item, least, put, put_first, run, text};
 use sheet::Reading;
+use std::io;
 
 // How many places are lent.
 #[derive(Clone, Copy)]
@@ -16,16 +17,18 @@ struct Room {
 }
 
 // All bytes of a list, as numbers.
-fn put_bytes(list: &[u8]) {
+fn put_bytes(to: &impl Print, list: &[u8]) -> io::Result<()> {
     let mut i: usize = 0;
     while i < list.len() {
-        put(list[i] as u64);
+        put(to, list[i] as u64)?;
         i += 1;
     }
+    Ok(())
 }
 
 // The writer, into a part of the bytes lent.
 fn tell_written(
+    to: &impl Print,
     mesh: Mesh,
     source: u64,
     targets: &[u64],
@@ -33,27 +36,27 @@ fn tell_written(
     counts: &[u64],
     room: usize,
     out: &mut [u8],
-) {
+) -> io::Result<()> {
     let n = least(room, out.len());
     let written = sheet_write::write(mesh, source, targets, places, counts, &mut out[..n]);
-    text(b"wrote");
-    put(written.number());
-    put(written.bytes() as u64);
-    text(b" bytes");
-    put_bytes(&out[..n]);
-    text(b"\n");
+    text(to, b"wrote")?;
+    put(to, written.number())?;
+    put(to, written.bytes() as u64)?;
+    text(to, b" bytes")?;
+    put_bytes(to, &out[..n])?;
+    text(to, b"\n")
 }
 
-fn put_reading(reading: Reading) {
-    text(b"read");
-    put(reading.number());
-    put(reading.path() as u64);
-    put(reading.place() as u64);
+fn put_reading(to: &impl Print, reading: Reading) -> io::Result<()> {
+    text(to, b"read")?;
+    put(to, reading.number())?;
+    put(to, reading.path() as u64)?;
+    put(to, reading.place() as u64)?;
     let mesh = reading.mesh();
-    put(mesh.kind);
-    put(mesh.size);
-    put(reading.source());
-    put(reading.paths() as u64);
+    put(to, mesh.kind)?;
+    put(to, mesh.size)?;
+    put(to, reading.source())?;
+    put(to, reading.paths() as u64)
 }
 
 // The reader, into a part of each slice lent.
@@ -70,23 +73,24 @@ fn read_into(
     sheet_read::read(bytes, &mut places[..a], &mut counts[..b], &mut targets[..c])
 }
 
-fn put_named(name: &[u8], list: &[u64], n: usize) {
-    text(name);
-    put_first(list, n);
+fn put_named(to: &impl Print, name: &[u8], list: &[u64], n: usize) -> io::Result<()> {
+    text(to, name)?;
+    put_first(to, list, n)
 }
 
 fn tell_read(
+    to: &impl Print,
     bytes: &[u8],
     room: Room,
     places: &mut [u64],
     counts: &mut [u64],
     targets: &mut [u64],
-) {
-    put_reading(read_into(bytes, room, places, counts, targets));
-    put_named(b" places", places, room.places);
-    put_named(b" counts", counts, room.counts);
-    put_named(b" targets", targets, room.targets);
-    text(b"\n");
+) -> io::Result<()> {
+    put_reading(to, read_into(bytes, room, places, counts, targets))?;
+    put_named(to, b" places", places, room.places)?;
+    put_named(to, b" counts", counts, room.counts)?;
+    put_named(to, b" targets", targets, room.targets)?;
+    text(to, b"\n")
 }
 
 // The numbers of a list as bytes, as many as fit.
@@ -103,9 +107,9 @@ fn as_bytes(list: &[u64], out: &mut [u8]) -> usize
 }
 
 // The writer is asked from the place `at` on; where the next case stands.
-pub fn write(list: &[u64], at: usize) -> usize
+pub fn write(to: &impl Print, list: &[u64], at: usize) -> io::Result<usize>
     requires { at ≤ length list.now }
-    ensures { at < result }
+    ensures { IfOk result (λ next. at < next) }
 {
     let mut out = [249u8; 16384];
     let mesh = Mesh {
@@ -119,6 +123,7 @@ pub fn write(list: &[u64], at: usize) -> usize
     let counts = run(list, c);
     let d = c + 1 + counts.len();
     tell_written(
+        to,
         mesh,
         item(list, at + 2),
         targets,
@@ -126,8 +131,8 @@ pub fn write(list: &[u64], at: usize) -> usize
         counts,
         item(list, d) as usize,
         &mut out,
-    );
-    d + 1
+    )?;
+    Ok(d + 1)
 }
 
 // The three numbers from the place `at` on.
@@ -142,9 +147,9 @@ fn room_at(list: &[u64], at: usize) -> Room
 }
 
 // The reader is asked from the place `at` on; where the next case stands.
-pub fn read(list: &[u64], at: usize) -> usize
+pub fn read(to: &impl Print, list: &[u64], at: usize) -> io::Result<usize>
     requires { at ≤ length list.now }
-    ensures { at < result }
+    ensures { IfOk result (λ next. at < next) }
 {
     let mut bytes = [0u8; 16384];
     let mut places = [9u64; 2048];
@@ -154,6 +159,13 @@ pub fn read(list: &[u64], at: usize) -> usize
     let n = as_bytes(numbers, &mut bytes);
     let e = at + 1 + numbers.len();
     let room = room_at(list, e);
-    tell_read(&bytes[..n], room, &mut places, &mut counts, &mut targets);
-    e + 3
+    tell_read(
+        to,
+        &bytes[..n],
+        room,
+        &mut places,
+        &mut counts,
+        &mut targets,
+    )?;
+    Ok(e + 3)
 }
