@@ -1,4 +1,6 @@
 // The cube's planners over plain numbers, exported: what the tests in C++ call. Each call returns the number of the refusal, or 0.
+#![tactic(auto)]
+
 ghost use Rattle.cube.specs.Cube.{cube};
 ghost use Rattle.cube_plan.specs.Says.{plan_against, through_against};
 ghost use Rattle.plan_calls.specs.Called.{Called, CalledThrough};
