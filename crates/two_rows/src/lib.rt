@@ -1,4 +1,6 @@
 // A cube fan in the rows of a grid: 16 rows of 35 places. Inner: the two-level planner meets each `requires`.
+#![tactic(auto)]
+
 ghost use Rattle.std.specs.Prelude.{◌≡◌, ℕ, length};
 ghost use Rattle.two_rows.specs.Rows.{Few, Started, Ask, Gives};
 
