@@ -73,6 +73,7 @@ fn on_digit(text: &[u8], at: usize) -> bool
 
 // The number that begins at a place: in `5 207` at 2 it is 207, and ends at 5. None where there is no digit, a zero before another digit,
 // or a number of 2^64 or more.
+#[tactic(auto, using(crate::proofs::Rules::first_cases))]
 pub fn read(text: &[u8], at: usize) -> Number
     requires { at ≤ length text.now }
     ensures { Read text.now (at + 1) result (specs.number (drop at text.now)) }

@@ -9,6 +9,7 @@ use crate::parts::{Block, Slot};
 use crate::sizes::Order;
 
 // Whether a block and slot are linked to a block and slot.
+#[tactic(auto, using(crate::proofs::Rules::joined_cases))]
 pub fn joined(b: Block, p: Slot, c: Block, q: Slot) -> bool
     requires { p.0 < 64 }
     ensures { result ≡ specs.joined b.0 p.0 c.0 q.0 }
