@@ -1,4 +1,6 @@
 // A mesh as a DIMACS edge file: what may be exported, and what a file that is read comes to. `dimacs_write` writes such files, and `dimacs_read` reads them.
+#![tactic(auto)]
+
 ghost use Rattle.std.specs.Prelude.{◌≡◌};
 ghost use Rattle.answers.specs.Told.{against};
 ghost use Rattle.answers.specs.Order.{first};

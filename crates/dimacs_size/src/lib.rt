@@ -1,4 +1,6 @@
 // How many bytes the text of a mesh takes. Inner: callers meet each `requires`.
+#![tactic(auto)]
+
 ghost use Rattle.std.specs.Prelude.{◌≡◌, length};
 ghost use Rattle.decimal.specs.Digits.{digits};
 ghost use Rattle.mesh.specs.Kinds.{mesh_of};

@@ -1,4 +1,6 @@
 // One path against the rules: the first place at which something is wrong, for each thing that is looked for. Inner functions of the judge.
+#![tactic(auto)]
+
 ghost use Rattle.std.specs.Prelude.{◌≡◌, ℕ, ◌+◌, ◌-◌, ◌*◌, ◌≤◌, ◌<◌, length};
 ghost use Rattle.scan.specs.Scan.{nowhere, seek, any, spot_of};
 ghost use Rattle.paths.specs.Fan as fan;

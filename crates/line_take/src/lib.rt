@@ -1,4 +1,6 @@
 // The parts of a request line, each taken from the front of what is left: its first word, then its numbers. Inner: callers meet each `requires`.
+#![tactic(auto)]
+
 ghost use Rattle.std.specs.Prelude.{◌≡◌, ◌≤◌, length, drop};
 ghost use Rattle.line.specs.Parse as specs;
 ghost use Rattle.line_take.specs.Reads as reads;

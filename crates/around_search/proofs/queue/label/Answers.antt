@@ -1,0 +1,7 @@
+use Rattle.std.proofs.Common.{rules, refl}
+use Rattle.around_search.specs.Room.{label}
+use Rattle.around_search.proofs.queue.label.Goals as goal
+
+pub returns : goal.returns
+unfolding label
+returns c = refl

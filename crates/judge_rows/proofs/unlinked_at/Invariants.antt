@@ -1,0 +1,12 @@
+-- `judge_rows::unlinked_at` meets its contract: the invariant is that each relay passed is linked to the one before. Assumes nothing.
+use Rattle.std.proofs.Common.{◌+◌, ◌-◌, sym, ◌∙◌, arith, rules}
+use Rattle.scan.specs.Laws.{Passed, passed_start, passed_more, passed_at, passed_all}
+use Rattle.paths.specs.Finding.{unlinked}
+use Rattle.judge_rows.specs.Rules.{rules_of}
+use Rattle.judge_rows.proofs.unlinked_at.Given as goal
+
+abbrev pub invariant-loop-p : goal.invariant-loop-p
+invariant-loop-p l = Passed (unlinked (rules_of l.rules) l.places l.i) 1 l.h l.p
+
+abbrev pub decreases-loop-p : goal.decreases-loop-p
+decreases-loop-p l = l.h + 1 - l.p
