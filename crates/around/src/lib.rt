@@ -1,4 +1,6 @@
 // A way round: a shortest path between two relays of the two-level mesh, of orders 1 to 3, that avoids every relay that has stopped, or the certainty that there is none.
+#![tactic(auto)]
+
 ghost use Rattle.std.specs.Prelude.{◌≡◌, length};
 ghost use Rattle.answers.specs.Told.{against};
 ghost use Rattle.answers.specs.Order.{first};

@@ -1,4 +1,6 @@
 // The columns of the paths of a fan or a bundle, one for each part of an entry. Inner functions of survivors.
+#![tactic(auto)]
+
 ghost use Rattle.std.specs.Prelude.{◌≡◌, true, ◌&&◌, [], ◌+◌, eqb, length, take};
 ghost use Rattle.marks.specs.Marks.{words, marked};
 ghost use Rattle.scan.specs.Scan.{pick, any, count, has};

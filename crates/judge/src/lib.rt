@@ -1,4 +1,6 @@
 // The judge: the first finding of a set of paths, or that there is none: that it is a fan or, in the other mode, a bundle.
+#![tactic(auto)]
+
 mod bundles;
 mod found;
 

@@ -1,4 +1,6 @@
 // The pieces of an answer written as text: words, numbers, lines, paths. Inner: callers meet each `requires`.
+#![tactic(auto)]
+
 ghost use Rattle.std.specs.Prelude.{◌≡◌, ◌++◌, ◌+◌, ◌≤◌, length};
 ghost use Rattle.decimal.specs.Write.{Put};
 ghost use Rattle.line.specs.Text.{spaced, line_end};

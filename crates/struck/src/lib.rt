@@ -1,5 +1,7 @@
 // What failures strike of a set of paths, by marks: its relays, or its links, are marked, and one pass over what has failed keeps the marks of those that are there. What has no such mark
 // has not failed; the rest is looked for. One code for both: d is 0 for relays and 1 for links, from a relay to the one d places on. Inner functions of survivors.
+#![tactic(auto)]
+
 ghost use Rattle.std.specs.Prelude.{◌≡◌, ℕ, ◌+◌, ◌≤◌, ◌<◌, length};
 ghost use Rattle.marks.specs.Marks.{words};
 ghost use Rattle.marks.specs.Noted.{Noted};
