@@ -1,62 +1,89 @@
 #!/usr/bin/env python3
-"""What the gate's edits were refused for: each wrong answer by a fact of its own function.
+"""What the gate's edits were refused for: a fact of a function that the edit changes.
+
+    python3 tests/edits.py [LOG]      reads what `rt ci` or `rt must-fail` printed, target/gate.log where none is named
 
 An edit of crates/*/must-fail may hold several wrong answers, each in a function of its own, so that a crate is proved again once for all of them. Each begins with a line
-`# NAME: what is wrong`, and `fn:` names the function that it changes. An edit with no `fn:` changes a constant, a definition or two functions at once: of such a one no more is asked than the gate does. The gate asks only that the crate is refused; this asks of what the prover said then, which the gate leaves under
-target/must-fail, that every function named was refused for itself: not because a function that it calls was, and not because its proof no longer fits its text.
+`# NAME: what is wrong`, and `fn:` names the function that it changes. An edit with no `fn:` changes a constant, a definition or two functions at once: of such a one no more is asked than the gate does. The gate asks only that the crate is refused, and prints of each
+edit the first thing that the prover said against it. This asks that it was said of a function that the edit names: not of one that calls it, and not because a proof no longer fits its text. Of an edit with several wrong answers the gate tells only the first.
 """
 import pathlib
 import re
 import sys
 
 NAMED = re.compile(r"^fn: (\S+)$", re.M)
-UNFIT = re.compile(r"module `[^`]*` has no `|has no field `|cannot be named")
+TOLD = re.compile(r"^rt: must-fail (\w+)/(\S+)\.edit: (?:(refused, as it must be)(?: \((only [^)]*)\))?(?:: )?)?(.*)$", re.M)
+PLACE = re.compile(r"(?:note: )?(?:\./)?((?:src|specs|proofs)/\S+?):(\d+):\d+:")
+FUNCTION = re.compile(r'^( *)(?:pub )?(?:const )?(?:unsafe )?(?:extern "C" )?fn (\w+)')
 
 
-def proof_of(function):
-    """The places, below proofs/, where the proof of a function may stand: one that calls itself stands under its name with a + before it."""
+def edited(folder, edit):
+    """The files that an edit changes, as it leaves them."""
+    path, old, texts = None, None, {}
+    for line in edit.splitlines():
+        if line.startswith("file: "):
+            path = line.removeprefix("file: ").strip()
+        elif line.startswith("old: "):
+            old = line.removeprefix("old: ")
+        elif line.startswith("new:"):
+            texts.setdefault(path, (folder / path).read_text(encoding="utf-8"))
+            texts[path] = texts[path].replace(old, line.removeprefix("new:").removeprefix(" "))
+    return texts
+
+
+def function_at(text, number):
+    """The name of the function whose text has a line, or None."""
+    name, indent = None, None
+    for at, line in enumerate(text.splitlines(), 1):
+        begins = FUNCTION.match(line)
+        if begins and name is None:
+            indent, name = begins.groups()
+        if at == number:
+            return name
+        if name is not None and line == f"{indent}}}":
+            name = None
+    return None
+
+
+def stands_in(function, folder, texts, place):
+    """Whether a place of the sources, or of a proof, is the function's."""
+    path, number = place.group(1), int(place.group(2))
     *modules, name = function.split("::")[1:]
-    folder = "/".join(modules)
-    return [f"proofs/{folder + '/' if folder else ''}{mark}{name}/" for mark in ("", "+")]
+    if path.startswith("proofs/"):
+        inside = "/".join(modules)
+        return any(path.startswith(f"proofs/{inside + '/' if inside else ''}{mark}{name}/") for mark in ("", "+"))
+    text = texts.get(path) or (folder / path).read_text(encoding="utf-8")
+    within = [it for it in modules if (folder / "src" / f"{it}.rt").exists()]
+    file = f"src/{within[0]}.rt" if within else None
+    return (path == file or file is None and path in ("src/lib.rt", "src/main.rt")) and function_at(text, number) == name
 
 
-def refused(function, log):
-    """How a function was refused for itself, or None."""
-    said = next((line for line in log if line.startswith(f"fn {function}: ")), None)
-    if said is None or said == f"fn {function}: proved":
-        return None
-    own = [line for line in log if ": error: " in line and any(place in line for place in proof_of(function)) and "was not admitted" not in line]
-    if any(UNFIT.search(line) for line in own):
-        return None
-    if own:
-        return own[0].split(": error: ", 1)[1]
-    return said if "`search` does not close" in said else None
-
-
-def main():
-    wrong = runs = whole = 0
+def main(log="target/gate.log"):
+    said = {(crate, name): rest for crate, name, *rest in TOLD.findall(pathlib.Path(log).read_text(encoding="utf-8", errors="replace"))}
+    edits = whole = wrong = 0
     faults = []
     for edit in sorted(pathlib.Path("crates").glob("*/must-fail/*.edit")):
-        crate, name = edit.parts[1], edit.stem
-        said = pathlib.Path("target/must-fail", crate, name, ".log")
-        if not said.exists():
-            faults.append(f"{crate}/{name}: not tried by the gate")
-            continue
-        log = said.read_text(encoding="utf-8", errors="replace").splitlines()
-        runs += 1
-        functions = NAMED.findall(edit.read_text(encoding="utf-8"))
-        if len(functions) != len(set(functions)):
-            faults.append(f"{crate}/{name}: two wrong answers in one function")
-        for function in functions:
-            if refused(function, log) is None:
-                faults.append(f"{crate}/{name}: {function} is not refused by a fact of its own")
-        wrong += len(functions)
+        folder, crate, name = edit.parent.parent, edit.parts[1], edit.stem
+        edits += 1
+        refused, only, first = said.get((crate, name), ("", "", "not tried by the gate"))
+        text = edit.read_text(encoding="utf-8")
+        functions = NAMED.findall(text)
         whole += not functions
+        wrong += len(functions)
+        place = PLACE.match(first)
+        if not refused:
+            faults.append(f"{crate}/{name}: {first}")
+        elif "names what the edit took away" in only:
+            faults.append(f"{crate}/{name}: only a proof that does not fit its text is refused: {first}")
+        elif len(functions) != len(set(functions)):
+            faults.append(f"{crate}/{name}: two wrong answers in one function")
+        elif functions and not (place and any(stands_in(it, folder, edited(folder, text), place) for it in functions)):
+            faults.append(f"{crate}/{name}: what the gate tells is of none of {', '.join(functions)}: {first}")
     for fault in faults:
         print(f"edits: {fault}")
-    print(f"edits: {wrong} wrong answers in {runs - whole} edits, each function refused for itself; {whole} edits of constants and definitions refused as a whole" if not faults else f"edits: {len(faults)} of them are not as they must be")
+    print(f"edits: {edits - whole} edits with {wrong} wrong answers, each edit refused first for a fact of a function that it names; {whole} edits of constants and definitions refused as a whole" if not faults else f"edits: {len(faults)} of {edits} are not as they must be")
     return 1 if faults else 0
 
 
 if __name__ == "__main__":
-    sys.exit(main())
+    sys.exit(main(*sys.argv[1:]))

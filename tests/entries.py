@@ -4,7 +4,7 @@
     python3 tests/entries.py
 
 What lends a list of structs has a proof by hand (docs/DECISIONS.md), so the program, below, is run without one: on the interpreter and compiled.
-Run it after `rt check entries script`: what is proved is not proved again.
+Run it after `rt lib` in crates/entries and crates/script: what is proved is not proved again.
 """
 import os
 import random
@@ -17,24 +17,24 @@ import partial
 from judge_model import HELD, WORD, asked, cases, fan, survivors
 from mesh_model import mesh_of
 
-PROGRAM = """
-// A case at a time: 0 for a fan or 1 for a bundle; kind, size and source; targets, places, counts, stopped relays, cuts and zones, each with its length before it; how
+PROGRAM = """// A case at a time: 0 for a fan or 1 for a bundle; kind, size and source; targets, places, counts, stopped relays, cuts and zones, each with its length before it; how
 // many entries are lent.
 // A line has what is told, the count, and the entries, all (9, 9, 1, 9) before, as they are afterwards.
+#![tactic(auto)]
+
 use entries::Entry;
 use mesh::Mesh;
-use script::item;
-use script::put;
-use script::run;
+use script::{item, put, run};
+use std::io;
 
-fn put_entry(e: Entry) {
-    put(e.target);
-    put(e.hops);
-    put(if e.whole { 1 } else { 0 });
-    put(e.zone as u64);
+fn put_entry(to: &impl Print, e: Entry) -> io::Result<()> {
+    put(to, e.target)?;
+    put(to, e.hops)?;
+    put(to, if e.whole { 1 } else { 0 })?;
+    put(to, e.zone as u64)
 }
 
-fn tell(mode: u64, mesh: Mesh, source: u64, targets: &[u64], places: &[u64], counts: &[u64], zones: &[u32], stopped: &[u64], cuts: &[u64], room: usize) {
+fn tell(to: &impl Print, mode: u64, mesh: Mesh, source: u64, targets: &[u64], places: &[u64], counts: &[u64], zones: &[u32], stopped: &[u64], cuts: &[u64], room: usize) -> io::Result<()> {
     let mut out = [Entry { target: 9, hops: 9, whole: true, zone: 9 }; 40];
     let n = script::least(room, 40);
     let t = if mode == 0 {
@@ -42,16 +42,16 @@ fn tell(mode: u64, mesh: Mesh, source: u64, targets: &[u64], places: &[u64], cou
     } else {
         entries::bundle_survivors(mesh, source, item(targets, 0), places, counts, zones, stopped, cuts, &mut out[..n])
     };
-    put(t.number());
-    put(t.path() as u64);
-    put(t.place() as u64);
-    put(t.whole());
+    put(to, t.number())?;
+    put(to, t.path() as u64)?;
+    put(to, t.place() as u64)?;
+    put(to, t.whole())?;
     let mut i: usize = 0;
     while i < n {
-        put_entry(out[i]);
+        put_entry(to, out[i])?;
         i += 1;
     }
-    script::text(b"\\n");
+    script::text(to, b"\\n")
 }
 
 // The numbers of a list, of 32 bits each, and how many.
@@ -65,7 +65,7 @@ fn narrow(list: &[u64], out: &mut [u32]) -> usize {
     n
 }
 
-fn case(list: &[u64], from: usize) -> usize {
+fn case(to: &impl Print, list: &[u64], from: usize) -> io::Result<usize> {
     let at = from + 1;
     let mesh = Mesh { kind: item(list, at), size: item(list, at + 1) };
     let targets = run(list, at + 3);
@@ -82,19 +82,19 @@ fn case(list: &[u64], from: usize) -> usize {
     let g = f + 1 + long.len();
     let mut zones = [0u32; 40];
     let n = narrow(long, &mut zones);
-    tell(item(list, from), mesh, item(list, at + 2), targets, places, counts, &zones[..n], stopped, cuts, item(list, g) as usize);
-    g + 1
+    tell(to, item(list, from), mesh, item(list, at + 2), targets, places, counts, &zones[..n], stopped, cuts, item(list, g) as usize)?;
+    Ok(g + 1)
 }
 
-fn main() {
+fn main(rt: HostRuntime) -> io::Result<()> {
     let mut bytes = [0u8; 131072];
     let mut list = [0u64; 65536];
-    let n = io::read_full(0, &mut bytes);
-    let k = script::numbers(&bytes[..n], &mut list);
+    let k = script::read_numbers(&mut rt.stdin(), &mut bytes, &mut list)?;
     let mut at: usize = 0;
     while at < k {
-        at = case(&list, at);
+        at = case(&rt, &list, at)?;
     }
+    Ok(())
 }
 """
 
@@ -137,21 +137,20 @@ def lines():
 
 
 def prepare(folder):
-    """A copy of the repository as far as the crate entries reaches, with the program."""
-    sources = partial.copy(folder, ["entries", "script"], "entries_cases", ["answers", "mesh", "survivors", "entries", "script", "io", "libc"])
+    """A copy of the repository as far as the crate entries reaches, with the program; its folder."""
+    sources = partial.copy(folder, ["entries", "script"], "entries_cases", ["answers", "mesh", "survivors", "entries", "script"])
     crate = os.path.dirname(sources)
     with open(os.path.join(sources, "main.rt"), "w", encoding="utf-8") as source:
         source.write(PROGRAM)
-    for name, part in (("stdin", 0), ("stdout", 1)):
-        with open(os.path.join(crate, name), "w", encoding="utf-8") as out:
-            out.writelines(line[part] + "\n" for line in lines())
+    return crate
 
 
 def main():
     with tempfile.TemporaryDirectory() as folder:
-        prepare(folder)
-        done = subprocess.run(["rt", "try", "entries_cases"], cwd=folder, capture_output=True, text=True, check=False)
-        if done.returncode != 0:
+        crate = prepare(folder)
+        asked_of, expected = ("".join(line[part] + "\n" for line in lines()) for part in (0, 1))
+        done = subprocess.run(["rt", "try"], cwd=crate, input=asked_of, capture_output=True, text=True, check=False)
+        if done.returncode != 0 or done.stdout != expected:
             sys.exit(f"entries: FAILED\n{(done.stdout + done.stderr)[-2000:]}")
     print(f"entries: {len(list(lines()))} lists are as the models have them")
 

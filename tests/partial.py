@@ -26,11 +26,9 @@ def reached(names):
 def copy(to, names, own, needs):
     """Copies the crates that `names` reach into the folder `to`, and lists the crate `own`, which needs `needs`; its folder for sources."""
     crates = reached(names)
-    os.makedirs(os.path.join(to, "target/stamp"))
     for name in crates:
-        shutil.copytree(os.path.join(ROOT, "crates", name), os.path.join(to, "crates", name))
-        shutil.copytree(os.path.join(ROOT, "target/rlib", name + ".rlib"), os.path.join(to, "target/rlib", name + ".rlib"))
-        shutil.copy(os.path.join(ROOT, "target/stamp", name), os.path.join(to, "target/stamp"))
+        # (what its checks kept is large, and the library that they built is enough)
+        shutil.copytree(os.path.join(ROOT, "crates", name), os.path.join(to, "crates", name), ignore=shutil.ignore_patterns("incremental"))
     with open(os.path.join(to, "crates.txt"), "w", encoding="utf-8") as lines:
         for name, depends in [*crates.items(), (own, needs)]:
             lines.write(f"{name}:{''.join(' ' + x for x in depends)}\n")

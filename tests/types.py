@@ -3,7 +3,7 @@
 
     python3 tests/types.py        each piece of code below, as a crate of its own over the crate two, must be refused for its types
 
-Run it after `rt check two`: what is proved is not proved again.
+Run it after `rt lib` in crates/two: what is proved is not proved again.
 """
 import os
 import subprocess
@@ -12,7 +12,7 @@ import tempfile
 
 import partial
 
-HEAD = "use answers::Answer;\nuse answers::YesNo;\nuse two::Block;\nuse two::Order;\nuse two::Slot;\n"
+HEAD = "#![tactic(auto)]\n\nuse answers::Answer;\nuse answers::YesNo;\nuse two::Block;\nuse two::Order;\nuse two::Slot;\n"
 RIGHT = "pub fn f(b: Block, p: Slot) -> YesNo { two::linked_parts(Order(2), b, p, b, p) }"
 WRONG = {
     "a slot passed as a block": "pub fn f(b: Block, p: Slot) -> YesNo { two::linked_parts(Order(2), p, p, b, p) }",
@@ -24,7 +24,7 @@ WRONG = {
 def said(sources, code):
     with open(os.path.join(sources, "lib.rt"), "w", encoding="utf-8") as source:
         source.write(HEAD + code + "\n")
-    done = subprocess.run(["rt", "dev", "types"], cwd=sources, capture_output=True, text=True, check=False)
+    done = subprocess.run(["rt", "check"], cwd=os.path.dirname(sources), capture_output=True, text=True, check=False)
     return done.returncode, done.stdout + done.stderr
 
 
