@@ -16,7 +16,7 @@ ghost use Rattle.two_gate.specs.Says.{Tells, Small};
 
 // What is chosen for k targets: the inner ones, the gated ones with their gate slots, those of them whose gate block is the source's, those with a
 // block path of their own, one of each crowd; the rows of the block paths with their ends; and the doors that stay shut.
-#[derive(Drop)]
+#[derive(Clone, Copy)]
 pub struct Choice {
     pub inner: u64,
     pub gated: u64,

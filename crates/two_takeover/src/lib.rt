@@ -10,7 +10,7 @@ ghost use Rattle.two_takeover.specs.Tail.{TailAsk, Tailed};
 ghost use Rattle.two_takeover.specs.TakeOver.{OverAsk, Over};
 
 // A tail: slots of a block, `len` of them, to the target `who`.
-#[derive(Drop)]
+#[derive(Clone, Copy)]
 pub struct Tail {
     pub who: u32,
     pub len: usize,
@@ -18,7 +18,7 @@ pub struct Tail {
 }
 
 // Who takes the block path of a row over (8: nobody), by which slot it enters its last block, and its tail there.
-#[derive(Drop)]
+#[derive(Clone, Copy)]
 pub struct Taken {
     pub who: u32,
     pub row: usize,
