@@ -1,5 +1,7 @@
 // The round trip: as many targets as a relay has links, all in the source's block. All but one are reached inside the block, the last by
 // the blocks around it. Inner: the planner meets each `requires`.
+#![tactic(auto)]
+
 ghost use Rattle.std.specs.Prelude.{◌≡◌, List, ℕ, ◌+◌, ◌*◌, ◌^◌, ◌<◌, ◌≤◌, length};
 ghost use Rattle.two_write.specs.Row.{hops};
 ghost use Rattle.two_parts.specs.Two.{two};
