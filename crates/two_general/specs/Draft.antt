@@ -1,8 +1,7 @@
 -- All that is chosen before a path is written: the targets, the choices, the block paths in a grid, and who takes one over (`State`);
 -- and by which slot each path leaves the source's block (`Leaves`). Assumes nothing.
-use Rattle.std.specs.Prelude.{ℕ, ◌+◌, ◌-◌, ◌^◌, ◌≤◌, ◌<◌, ◌≡◌, refl, ◌⊎◌, ◌≢◌, List, [], ◌∷◌, length, get_or}
-use Rattle.std.proofs.Common.{sym, ap, ◌∙◌, subst, inl, inr, ⊎_elim, arith, pow_mono}
-use Rattle.std.specs.Int.Count.{ones, ones-ones}
+use Rattle.std.specs.Prelude.{ℕ, ◌+◌, ◌-◌, ◌^◌, ◌≤◌, ◌<◌, ◌≡◌, ◌≢◌, List, ◌∷◌, length, get_or}
+use Rattle.std.proofs.Common.{sym, ap, ◌∙◌, subst, ⊎_elim, arith, pow_mono}
 use Rattle.std.specs.Int.Bits.{bit_xor}
 use Rattle.cube_math.specs.Masks.{at}
 use Rattle.bits.specs.Bit.{bit, flip, Lowest}
@@ -11,14 +10,11 @@ use Rattle.cube_math.specs.Doors.{Walk, Way, Doors}
 use Rattle.cube_math.specs.Plain.{full-below}
 use Rattle.cube_math.specs.Request.{Request}
 use Rattle.two_write.specs.Row.{hops}
-use Rattle.two_math.specs.Sort.{Ask, Sorts, Keeps, Ends}
-use Rattle.two_math.specs.Gates.{Gates}
 use Rattle.two_math.specs.Shut.{block_request}
 use Rattle.two_math.specs.Loops.{door-of}
 use Rattle.two_choose.specs.declared.Choice.{Choice}
 use Rattle.two_choose.specs.Chosen.{Asks, Chose}
 use Rattle.two_takeover.specs.declared.Taken.{Taken}
-use Rattle.two_takeover.specs.Over.{Crowds}
 use Rattle.two_takeover.specs.TakeOver.{OverAsk, Over}
 
 -- what was chosen, by the struct that holds it

@@ -1,6 +1,6 @@
 -- From the choices to the paths, step by step: what each call is asked (`blocks_ask`, `planned`, `stated`, `held`). Assumes nothing.
-use Rattle.std.specs.Prelude.{ℕ, ◌+◌, ◌-◌, ◌*◌, ◌^◌, ◌≤◌, ◌<◌, ◌≡◌, refl, ◌⊎◌, ◌≢◌, List, length, get_or}
-use Rattle.std.proofs.Common.{sym, ap, ◌∙◌, subst, inl, inr, ⊎_elim, arith, pow_mono}
+use Rattle.std.specs.Prelude.{ℕ, ◌+◌, ◌-◌, ◌*◌, ◌^◌, ◌≤◌, ◌<◌, ◌≡◌, ◌⊎◌, ◌≢◌, List, length, get_or}
+use Rattle.std.proofs.Common.{sym, subst, arith, pow_mono}
 use Rattle.std.specs.Int.Count.{ones, ones-ones}
 use Rattle.cube_math.specs.Masks.{at}
 use Rattle.paths.specs.Fan as fan

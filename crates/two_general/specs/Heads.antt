@@ -1,16 +1,15 @@
 -- The heads: each path's leg has relays that cross its blocks, so all parts are drafted, and a cube fan leads to the slots by which the paths leave
 -- (`heads_ask`). Assumes nothing.
 use Rattle.std.specs.Prelude.{ℕ, zero, suc, ◌+◌, ◌-◌, ◌^◌, ◌≤◌, ◌<◌, ◌≡◌, refl, ◌⊎◌, ◌≢◌, List, [], ◌∷◌, length, get_or, take}
-use Rattle.std.proofs.Common.{sym, ap, ◌∙◌, subst, inl, inr, ⊎_elim, arith}
+use Rattle.std.proofs.Common.{sym, subst, inl, inr, arith}
 use Rattle.std.proofs.Math.Decide.{ℕ_discrete}
-use Rattle.std.specs.Int.Count.{ones, ones-ones}
+use Rattle.std.specs.Int.Count.{ones-ones}
 use Rattle.cube_math.specs.Masks.{at}
 use Rattle.bits.specs.Bit.{bit, flip}
-use Rattle.bits.specs.Laws.{bit-cases, clash, lt-or-le}
-use Rattle.cube_math.specs.Doors.{Walk, Doors}
+use Rattle.bits.specs.Laws.{bit-cases, lt-or-le}
+use Rattle.cube_math.specs.Doors.{Walk}
 use Rattle.cube_math.specs.Choose.{Chosen}
-use Rattle.cube_math.specs.Plain.{bit-full, full-below}
-use Rattle.cube_math.specs.Request.{Request}
+use Rattle.cube_math.specs.Plain.{full-below}
 use Rattle.two_math.specs.Relays.{Relay}
 use Rattle.two_math.specs.Through.{Crosses, through}
 use Rattle.two_math.specs.Plan.{Role, Draft}

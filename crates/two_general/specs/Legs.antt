@@ -1,10 +1,10 @@
 -- The rest of a path after its head: a law for each kind of target (`leg_inner`, `leg_taken`, `leg_direct`, `leg_gated`, `leg_straight`).
 -- Assumes nothing.
-use Rattle.std.specs.Prelude.{ℕ, zero, suc, ◌+◌, ◌-◌, ◌*◌, ◌^◌, ◌≤◌, ◌<◌, ◌≡◌, refl, ◌⊎◌, ◌≢◌, List, [], ◌∷◌, ◌++◌, length, get_or, take}
-use Rattle.std.proofs.Common.{sym, ap, ◌∙◌, subst, inl, inr, ⊎_elim, suc-mul, mul-le-mul_right, mul-suc, mul_comm, add-one, arith, length-take, length-append, take_all, take_at, get_or-take, pow_pos, pow_mono}
+use Rattle.std.specs.Prelude.{ℕ, suc, ◌+◌, ◌-◌, ◌*◌, ◌^◌, ◌≤◌, ◌<◌, ◌≡◌, refl, ◌⊎◌, ◌≢◌, List, [], ◌∷◌, length, get_or, take}
+use Rattle.std.proofs.Common.{sym, ap, ◌∙◌, subst, inl, inr, ⊎_elim, suc-mul, mul-le-mul_right, mul-suc, mul_comm, add-one, arith, length-take, take_all, get_or-take, pow_pos}
 use Rattle.cube_math.specs.Masks.{at}
 use Rattle.bits.specs.Bit.{bit, flip}
-use Rattle.bits.specs.Laws.{bit-cases, clash, flip-flip, flip-lt}
+use Rattle.bits.specs.Laws.{flip-flip, flip-lt}
 use Rattle.paths.specs.Lists.{in_at}
 use Rattle.cube_math.specs.Doors.{In, Walk, Way}
 use Rattle.cube_math.specs.Plain.{full-below}
@@ -12,14 +12,11 @@ use Rattle.two_write.specs.Row.{hops}
 use Rattle.two_math.specs.Relays.{Relay}
 use Rattle.two_math.specs.Through.{Crosses}
 use Rattle.two_math.specs.Assemble.{most}
-use Rattle.two_math.specs.Plan.{Steps, Role, Taken}
+use Rattle.two_math.specs.Plan.{Steps, Role}
 use Rattle.two_math.specs.Gates.{Near}
-use Rattle.two_math.specs.Crowd.{met, met_gate}
-use Rattle.two_math.specs.Loops.{last, crosses_last, walk-last}
+use Rattle.two_math.specs.Loops.{crosses_last, walk-last}
 use Rattle.two_choose.specs.declared.Choice.{Choice}
-use Rattle.two_choose.specs.Choice.{near-below}
 use Rattle.two_takeover.specs.declared.Taken as taken
-use Rattle.two_takeover.specs.TakeOver.{Takes}
 use Rattle.two_write.specs.Blocks.{Goes}
 use Rattle.two_write.specs.Slots.{Below}
 use Rattle.two_general.specs.Draft.{State, way_of, way-short, single_on, leave-below}

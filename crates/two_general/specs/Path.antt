@@ -1,8 +1,7 @@
 -- One path written: its source, its head in the source's block, the blocks of its leg, and its tail (`Wrote`). Assumes nothing.
 use Rattle.std.specs.Prelude.{ℕ, suc, ◌+◌, ◌-◌, ◌*◌, ◌^◌, ◌≤◌, ◌<◌, ◌≡◌, refl, Bool, true, false, List, [], ◌∷◌, ◌++◌, length, get_or, take, set}
-use Rattle.std.proofs.Common.{sym, ap, ◌∙◌, subst, arith, length-set, length-take, length-append}
+use Rattle.std.proofs.Common.{sym, ap, ◌∙◌, subst, arith, length-take, length-append}
 use Rattle.std.proofs.lemmas.List.Edits.{sets}
-use Rattle.std.proofs.Math.Seq.{length-sets}
 use Rattle.bits.specs.Bit.{flip}
 use Rattle.two_write.specs.Row.{hops}
 use Rattle.two_math.specs.Relays.{Relay, inside, length-inside}

@@ -1,15 +1,13 @@
 -- All paths written: what must be chosen before (`Held`), what each path is (`Pathed`), and one of them in its places (`Put`). Assumes nothing.
-use Rattle.std.specs.Prelude.{ℕ, suc, ◌+◌, ◌-◌, ◌*◌, ◌^◌, ◌≤◌, ◌<◌, ◌≡◌, refl, ◌⊎◌, ◌≢◌, Bool, true, false, not, List, [], ◌∷◌, ◌++◌, length, get_or, set, take, eqb}
-use Rattle.std.proofs.Common.{sym, ap, ◌∙◌, subst, inl, inr, ⊎_elim, mul-le-mul_right, arith, length-take, length-append, pow_mono, eqb-true, eq-eqb, ne_eqb}
+use Rattle.std.specs.Prelude.{ℕ, suc, ◌+◌, ◌-◌, ◌*◌, ◌^◌, ◌≤◌, ◌<◌, ◌≡◌, refl, ◌≢◌, Bool, true, false, not, List, ◌∷◌, ◌++◌, length, get_or, set, take, eqb}
+use Rattle.std.proofs.Common.{sym, ap, ◌∙◌, subst, inr, ⊎_elim, arith, length-take, length-append, pow_mono, eq-eqb}
 use Rattle.std.proofs.lemmas.List.Edits.{sets}
 use Rattle.std.specs.Int.Count.{ones, ones-ones}
-use Rattle.std.proofs.lemmas.Bool.{eqb-false, not-true, not-false}
 use Rattle.cube_math.specs.Masks.{at}
-use Rattle.bits.specs.Bit.{bit}
-use Rattle.bits.specs.Laws.{bit-cases, clash}
+use Rattle.bits.specs.Laws.{bit-cases}
 use Rattle.scan.specs.Laws.{true-false}
 use Rattle.paths.specs.Fan as fan
-use Rattle.cube_math.specs.Doors.{In, Way}
+use Rattle.cube_math.specs.Doors.{Way}
 use Rattle.cube_math.specs.Choose.{Chosen}
 use Rattle.paths.specs.Lists.{in_at}
 use Rattle.cube_math.specs.Plain.{bit-full}
@@ -22,10 +20,8 @@ use Rattle.two_choose.specs.declared.Choice.{Choice}
 use Rattle.two_takeover.specs.declared.Taken as taken
 use Rattle.two_write.specs.Row.{hops}
 use Rattle.two_write.specs.Rows.{Drawing, drawing_none, drawing_more, row_room}
-use Rattle.two_write.specs.Slots.{Below}
 use Rattle.two_rows.specs.Rows.{Gives}
-use Rattle.two_general.specs.Draft.{State, Leaves, AllInside, Somewhere}
-use Rattle.two_general.specs.Filled.{Filled}
+use Rattle.two_general.specs.Draft.{State, Leaves, Somewhere}
 use Rattle.two_general.specs.Legs.{Leg, slots-below}
 use Rattle.two_general.specs.Path.{head_if, head-on, head_off, HeadAsk, PathAsk, Wrote}
 

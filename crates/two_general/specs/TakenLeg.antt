@@ -8,8 +8,7 @@ use Rattle.cube_math.specs.Doors.{In, Way}
 use Rattle.two_write.specs.Row.{hops}
 use Rattle.two_math.specs.Relays.{Relay, in_append}
 use Rattle.two_math.specs.Through.{Crosses}
-use Rattle.two_math.specs.Assemble.{most}
-use Rattle.two_math.specs.Plan.{Role, Taken}
+use Rattle.two_math.specs.Plan.{Taken}
 use Rattle.two_math.specs.Gates.{Near}
 use Rattle.two_math.specs.Crowd.{met, met_gate}
 use Rattle.two_math.specs.Loops.{last, crosses_last}

@@ -1,30 +1,29 @@
 -- The whole plan: the paths that are written are a fan over numbers (`painted_fan`). Assumes nothing.
-use Rattle.std.specs.Prelude.{ℕ, ◌+◌, ◌-◌, ◌*◌, ◌^◌, ◌≤◌, ◌<◌, ◌≡◌, refl, ◌⊎◌, ◌≢◌, Bool, true, false, not, List, [], ◌∷◌, ◌++◌, length, get_or}
+use Rattle.std.specs.Prelude.{ℕ, ◌+◌, ◌-◌, ◌^◌, ◌≤◌, ◌<◌, ◌≡◌, refl, ◌⊎◌, not, List, [], ◌++◌, length, get_or}
 use Rattle.std.proofs.Common.{sym, ap, ◌∙◌, subst, inl, inr, ⊎_elim, arith, eq-eqb, ne_eqb}
-use Rattle.std.specs.Int.Count.{ones, ones-ones}
+use Rattle.std.specs.Int.Count.{ones-ones}
 use Rattle.cube_math.specs.Masks.{at}
 use Rattle.bits.specs.Bit.{bit}
 use Rattle.bits.specs.Laws.{bit-cases, lt-or-le}
-use Rattle.paths.specs.Mesh.{Mesh, width}
+use Rattle.paths.specs.Mesh.{Mesh}
 use Rattle.paths.specs.Lists.{Lists}
 use Rattle.requests.specs.Sound.{Sound}
 use Rattle.cube_math.specs.Doors.{Way, Doors, In}
 use Rattle.cube_math.specs.Plain.{bit-full}
 use Rattle.two_parts.specs.Two.{two}
 use Rattle.two_math.specs.Relays.{Relay, inside}
-use Rattle.two_math.specs.Sort.{Ask}
 use Rattle.two_math.specs.Plan.{Role, Draft}
 use Rattle.two_math.specs.Roles.{drafted, finished}
 use Rattle.two_math.specs.Assemble.{most, TwoFan}
-use Rattle.two_math.specs.Numbers.{numbers, block, slot, numbers-fan, ask_numbers, slot-below}
+use Rattle.two_math.specs.Numbers.{numbers, block, slot, numbers-fan, ask_numbers}
 use Rattle.two_choose.specs.declared.Choice.{Choice}
 use Rattle.two_choose.specs.Chosen.{Asks}
 use Rattle.two_takeover.specs.declared.Taken as taken
 use Rattle.two_write.specs.Row.{hops}
 use Rattle.two_write.specs.Rows.{Drawing, Ready, Drawn, drawn, drawn-has, drawing_drawn}
 use Rattle.two_general.specs.Filled.{Filled}
-use Rattle.two_general.specs.Path.{head_if, head-on, head_off}
-use Rattle.two_general.specs.Paths.{walks, head_of, Held, Pathed}
+use Rattle.two_general.specs.Path.{head-on, head_off}
+use Rattle.two_general.specs.Paths.{head_of, Held, Pathed}
 
 -- ---- the same by other words
 

@@ -1,4 +1,6 @@
 // The two-level planner for orders 2 to 5: choices, block paths, heads, and the paths written. Inner: the planner meets each `requires`.
+#![tactic(auto)]
+
 ghost use Rattle.std.specs.Prelude.{◌≡◌, List, ℕ, ◌+◌, ◌-◌, ◌*◌, ◌/◌, ◌%◌, ◌^◌, ◌<◌, ◌≤◌, ◌≢◌, length, take};
 ghost use Rattle.cube_math.specs.Masks.{at};
 ghost use Rattle.two_write.specs.Row.{hops};
@@ -47,7 +49,7 @@ fn leave_of(
 }
 
 // A tail: the first `len` of these slots.
-#[derive(Drop)]
+#[derive(Clone, Copy)]
 struct Tail {
     len: usize,
     slots: [u64; 8],
@@ -75,7 +77,7 @@ fn row_len(grid: &[u64; 560], row: usize) -> usize
 }
 
 // What a path is made of after its head: the first n blocks of a row, to the slot `last` of the last; and a tail of slots.
-#[derive(Drop)]
+#[derive(Clone, Copy)]
 pub struct Leg {
     pub row: usize,
     pub n: usize,
