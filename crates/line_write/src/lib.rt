@@ -1,4 +1,6 @@
 // An answer written as text: `fan k` and a line for each path, or `refused N P`.
+#![tactic(auto)]
+
 ghost use Rattle.std.specs.Prelude.{◌≡◌, ◌*◌, ◌≤◌, ltb, length};
 ghost use Rattle.answers.specs.Told.{answer_told};
 ghost use Rattle.scan.specs.Scan.{any};

@@ -18,9 +18,6 @@ returns-then-span_in-j c =
     let m = part_bits a.size.0 in
     sym (first-true (leb (span k m) a.j) (eqb (a.j / m) (class_of k m a.u)) (le-leb (span k m) a.j (omega (arith, c.span_in.ensures, c.if-span_in-j.true))))
 
--- TODO no goal for the old `nonzero-div-result`:
--- div-result c = let s = c.before.before.before in omega (arith, c.part-bits.ensures, (known-sized s.args.size.0 refl s.requires).some)
-
 pub class_of-requires : goal.class_of-requires
 class_of-requires c = c.requires
 
