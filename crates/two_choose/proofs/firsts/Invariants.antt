@@ -1,5 +1,5 @@
 -- `two_choose::firsts` meets its contract. Assumes nothing.
-use lib.Count.{ones}
+use Rattle.std.specs.Int.Count.{ones}
 use Rattle.cube_math.specs.Masks.{at}
 use Rattle.two_math.specs.Loops.{Classing}
 use Rattle.two_choose.proofs.firsts.Given as goal

@@ -1,5 +1,5 @@
 -- `two_choose::gates_of` meets its contract. Assumes nothing.
-use lib.Count.{ones}
+use Rattle.std.specs.Int.Count.{ones}
 use Rattle.two_choose.specs.Choice.{Gating}
 use Rattle.two_choose.proofs.gates_of.Given as goal
 

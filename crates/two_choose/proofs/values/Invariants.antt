@@ -1,6 +1,6 @@
 -- `two_choose::values` meets its contract. Assumes nothing.
 use Rattle.std.proofs.Common.{◌≡◌}
-use lib.Count.{ones}
+use Rattle.std.specs.Int.Count.{ones}
 use Rattle.cube_math.specs.Masks.{at}
 use Rattle.two_math.specs.Loops.{Using}
 use Rattle.two_choose.proofs.values.Given as goal

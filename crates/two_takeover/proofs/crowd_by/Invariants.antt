@@ -1,5 +1,5 @@
 -- `two_takeover::crowd_by` meets its contract. Assumes nothing.
-use lib.Count.{ones}
+use Rattle.std.specs.Int.Count.{ones}
 use Rattle.two_takeover.specs.Over.{Crowding}
 use Rattle.two_takeover.proofs.crowd_by.Given as goal
 
