@@ -1,11 +1,11 @@
 -- A sound request, by one of the three ways: the ring of order 1, the round trip, the general plan. Assumes nothing.
-use Rattle.std.specs.Prelude.{ℕ, ◌+◌, ◌*◌, ◌/◌, ◌^◌, ◌≤◌, ◌<◌, ◌≡◌, refl, Bool, true, false, ◌⊎◌, ◌≢◌, List, length, get_or, replicate}
-use Rattle.std.proofs.Common.{sym, ap, ◌∙◌, subst, inl, inr, arith, pow_pos}
+use Rattle.std.specs.Prelude.{ℕ, ◌+◌, ◌*◌, ◌≤◌, ◌<◌, ◌≡◌, refl, Bool, true, false, ◌≢◌, List, length, get_or, replicate}
+use Rattle.std.proofs.Common.{sym, ap, ◌∙◌, subst, inl, inr, arith}
 use Rattle.std.proofs.lemmas.List.Edits.{sets}
 use Rattle.std.proofs.Math.Seq.{length-sets}
 use Rattle.scan.specs.Runs.{filled_in, filled_out}
 use Rattle.paths.specs.Fan as fan
-use Rattle.paths.specs.Mesh.{Mesh, width}
+use Rattle.paths.specs.Mesh.{width}
 use Rattle.requests.specs.Sound.{Sound}
 use Rattle.two_parts.specs.Two.{two}
 use Rattle.two_write.specs.Rows.{Ready, Drawn}

@@ -1,8 +1,8 @@
 -- Laying a fan (`lay_asked`, `lay_granted`), and the planner's steps: what was checked, room, the paths (`asked`, `plan_refused`, `plan_short`,
 -- `plan_laid`). Assumes nothing.
-use Rattle.std.specs.Prelude.{ℕ, ◌*◌, ◌≤◌, ◌<◌, ◌≡◌, Bool, true, false, List, length}
+use Rattle.std.specs.Prelude.{ℕ, ◌*◌, ◌≤◌, ◌≡◌, Bool, true, false, List, length}
 use Rattle.std.proofs.Common.{sym, ◌∙◌, subst}
-use Rattle.std.proofs.Math.Option.{Option, none, some}
+use Rattle.std.proofs.Math.Option.{Option, none}
 use Rattle.answers.specs.Told.{against}
 use Rattle.answers.specs.declared.Refusal.{Refusal}
 use Rattle.answers.specs.declared.Refusal.TheVariants.{NoRoom}
@@ -13,7 +13,7 @@ use Rattle.paths.specs.Lists.{laid-fan}
 use Rattle.requests.specs.Planned.{Planned, refusal, granted}
 use Rattle.two_parts.specs.Two.{two}
 use Rattle.two_parts.specs.Parts.{known_bounds}
-use Rattle.mesh.specs.Kinds.{Kind, kind_of, twos, TWO}
+use Rattle.mesh.specs.Kinds.{kind_of, twos, TWO}
 use Rattle.mesh.specs.Says.{request_against, short}
 use Rattle.mesh.specs.Requests.{Fine, checked_fine, request_refused, request_short, request_granted, room_enough}
 use Rattle.two_write.specs.Rows.{Drawn}

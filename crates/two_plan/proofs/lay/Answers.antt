@@ -1,0 +1,40 @@
+-- `two_plan::lay` meets its contract: one of three ways, over filled places. Assumes nothing.
+use Rattle.std.proofs.Common.{refl, arith}
+use Rattle.two_plan.specs.Sound.{drawn-from, ring_ready, ring-drawn, trip, some_out, few, home_yes, home_no}
+use Rattle.two_plan.proofs.lay.Goals as goal
+
+pub overflow_mul-targets : goal.overflow_mul-targets
+overflow_mul-targets c = omega (arith, c.requires.room)
+
+pub fill-requires : goal.fill-requires
+fill-requires c = omega (arith, c.requires.room)
+
+pub plan-requires : goal.plan-requires
+plan-requires c = ring_ready c.requires _ refl c.fill.ensures c.if-m-eq1.true
+
+pub returns-then-m-eq1 : goal.returns-then-m-eq1
+returns-then-m-eq1 c = ring-drawn c.requires _ refl c.fill.ensures c.if-m-eq1.true c.plan.ensures
+
+pub overflow_add-m : goal.overflow_add-m
+overflow_add-m c = omega (arith, c.requires.high)
+
+pub all_home-requires : goal.all_home-requires
+all_home-requires c = c.requires.high
+
+pub plan-requires-then-all_home : goal.plan-requires-then-all_home
+plan-requires-then-all_home c = trip c.requires _ refl c.fill.ensures c.if-m-eq1.false c.if-targets-m.true (home_yes c.if-all_home.true c.all_home.ensures)
+
+pub returns-then-all_home : goal.returns-then-all_home
+returns-then-all_home c = drawn-from c.requires _ refl c.fill.ensures c.plan-then-all_home.ensures
+
+pub general-requires : goal.general-requires
+general-requires c = some_out c.requires _ refl c.fill.ensures c.if-m-eq1.false (home_no c.if-all_home.false c.all_home.ensures)
+
+pub returns-then-targets-m : goal.returns-then-targets-m
+returns-then-targets-m c = drawn-from c.requires _ refl c.fill.ensures c.general.ensures
+
+pub general-requires-2 : goal.general-requires-2
+general-requires-2 c = few c.requires _ refl c.fill.ensures c.if-m-eq1.false c.if-targets-m.false
+
+pub returns : goal.returns
+returns c = drawn-from c.requires _ refl c.fill.ensures c.general-2.ensures
