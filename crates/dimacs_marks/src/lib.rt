@@ -1,4 +1,6 @@
 // The links of a mesh marked one by one: bit i of a relay's mark is its link i, where that leads higher. Inner: callers meet each `requires`.
+#![tactic(auto)]
+
 ghost use Rattle.std.specs.Prelude.{◌≡◌, Bool, true, false, ◌<◌, length};
 ghost use Rattle.scan.specs.Scan.{any};
 ghost use Rattle.dimacs_size.specs.Sizes.{Rows};

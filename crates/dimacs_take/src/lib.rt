@@ -1,4 +1,6 @@
 // The lines of a graph file, each taken from the front of what is left. Inner: callers meet each `requires`.
+#![tactic(auto)]
+
 ghost use Rattle.std.specs.Prelude.{◌≡◌, ◌<◌, length, drop};
 ghost use Rattle.dimacs.specs.Parse as specs;
 ghost use Rattle.dimacs_take.specs.Takes as takes;

@@ -1,4 +1,6 @@
 // A mesh written as a DIMACS edge file.
+#![tactic(auto)]
+
 ghost use Rattle.std.specs.Prelude.{◌≡◌, ◌+◌, ◌≤◌, length};
 ghost use Rattle.answers.specs.Told.{answer_told};
 ghost use Rattle.decimal.specs.Write.{Put};

@@ -1,4 +1,6 @@
 // The line that names a mesh, `cube 3` or `two 2`, and an answer `refused 47 2`. Inner: callers meet each `requires`.
+#![tactic(auto)]
+
 ghost use Rattle.std.specs.Prelude.{◌≡◌, ◌++◌, ◌≤◌, length, drop};
 ghost use Rattle.decimal.specs.Write.{Put};
 ghost use Rattle.graph_line.specs.Names as specs;

@@ -1,4 +1,6 @@
 // A request line read: a word, then numbers with a space before each, up to the line end.
+#![tactic(auto)]
+
 ghost use Rattle.std.specs.Prelude.{◌≡◌, ◌++◌, ◌+◌, ◌≤◌, min, length, take, drop};
 ghost use Rattle.line.specs.Parse as specs;
 ghost use Rattle.line_read.specs.Reads.{ReadRequest};

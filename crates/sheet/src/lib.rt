@@ -1,4 +1,6 @@
 // Sheets: a fan as bytes. docs/SHEETS.md has the format byte by byte; `sheet_write` writes them and `sheet_read` reads them.
+#![tactic(auto)]
+
 ghost use Rattle.std.specs.Prelude.{◌≡◌};
 ghost use Rattle.sheet.specs.Format.{head};
 ghost use Rattle.sheet.specs.Says as says;

@@ -1,4 +1,6 @@
 // The paths of a sheet written, piece by piece. Inner: callers meet each `requires`.
+#![tactic(auto)]
+
 ghost use Rattle.std.specs.Prelude.{◌≡◌, ◌+◌, ◌*◌, ◌≤◌, length, get_or};
 ghost use Rattle.std.proofs.lemmas.List.Edits.{sets};
 ghost use Rattle.paths.specs.Lists.{ahead};

@@ -1,4 +1,6 @@
 // The paths of a sheet looked through, and then taken out of its bytes. Inner: callers meet each `requires`.
+#![tactic(auto)]
+
 ghost use Rattle.std.specs.Prelude.{◌≡◌, ◌+◌, ◌*◌, ◌≤◌, ◌<◌, length};
 ghost use Rattle.std.proofs.lemmas.List.Edits.{sets};
 ghost use Rattle.sheet.specs.Format.{HEAD, head, after, zone_at, zones_at, relays_at, row};

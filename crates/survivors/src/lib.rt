@@ -1,4 +1,6 @@
 // Survivors: which paths of a fan or a bundle are whole where relays have stopped and links are cut.
+#![tactic(auto)]
+
 mod bundles;
 mod zones;
 
