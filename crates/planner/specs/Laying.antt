@@ -1,7 +1,7 @@
 -- What each kind's planner asks and gives is what laying a fan over every kind asks and promises: `cube_sought`, `cube-laid`, `two-asked`, `two-laid`.
 -- Assumes nothing.
 use Rattle.std.specs.Prelude.{ℕ, ◌≤◌, ◌≡◌, refl, Bool, true, false, ◌≢◌, List, length}
-use Rattle.std.proofs.Common.{sym, ap, ◌∙◌, subst, arith}
+use Rattle.std.proofs.Common.{sym, ap, ◌∙◌, subst}
 use Rattle.std.proofs.Math.Option.{Option, none}
 use Rattle.answers.specs.Order.{refuse}
 use Rattle.answers.specs.declared.Refusal.{Refusal}

@@ -1,4 +1,6 @@
 // The planner over every kind of mesh: paths from a relay to others that meet nowhere but in it.
+#![tactic(auto)]
+
 ghost use Rattle.std.proofs.Math.Option.{none};
 ghost use Rattle.std.specs.Prelude.{length};
 ghost use Rattle.answers.specs.declared.Checked.TheVariants as checked;
