@@ -3,12 +3,12 @@ use Rattle.std.specs.Prelude.{ℕ, ◌+◌, ◌≤◌, ◌<◌, ◌≡◌, refl,
 use Rattle.std.proofs.Common.{sym, ap, ◌∙◌, subst, arith, get_or-set_same, get_or-set_other, get_or-take, length-take-le}
 use Rattle.std.proofs.Math.Option.{none}
 use Rattle.std.proofs.Math.Decide.{ℕ_discrete}
-use Rattle.answers.specs.Order.{first, request_faults}
+use Rattle.answers.specs.Order.{request_faults}
 use Rattle.paths.specs.Mesh.{Mesh}
 use Rattle.paths.specs.Links.{Links}
 use Rattle.paths.specs.Bundle.{end_of, end-other, end_below, end_differ}
 use Rattle.requests.specs.Sound.{Sound, sound_clear}
-use Rattle.mesh.specs.Kinds.{Kind, kind_of, mesh_of}
+use Rattle.mesh.specs.Kinds.{kind_of, mesh_of}
 use Rattle.mesh.specs.Laws.{known-near, known-planned, served-fine}
 use Rattle.mesh.specs.Limits.{known-linked}
 use Rattle.mesh.specs.Says.{planned_against}

@@ -1,26 +1,23 @@
 -- The steps put together: the fan to the chosen ends may be asked for (`fan_layable`), its paths may be closed (`fan-rows`), and closed they are the bundle
 -- (`bundle_laid`); and the same of the places as they are lent (`lent_layable`, `lent_rows`, `lent_laid`). Assumes nothing.
-use Rattle.std.specs.Prelude.{ℕ, ◌+◌, ◌-◌, ◌*◌, ◌≤◌, ◌<◌, ◌≡◌, refl, Bool, true, false, ◌≢◌, List, [], ◌∷◌, ◌++◌, eqb, length, take, drop}
+use Rattle.std.specs.Prelude.{ℕ, ◌+◌, ◌-◌, ◌*◌, ◌≤◌, ◌<◌, ◌≡◌, refl, Bool, true, false, List, [], ◌∷◌, ◌++◌, eqb, length, take, drop}
 use Rattle.std.proofs.Common.{sym, ap₂, ◌∙◌, subst, append-nil, length-append, length-drop, length-take-le, take_all, get_or-append-add, get_or-drop, le-ltb}
 use Rattle.std.proofs.Math.Path.{ap}
 use Rattle.std.proofs.Math.Option.{none}
 use native.Mathlib.Omega.{arith}
-use Rattle.std.proofs.Math.Decide.{ℕ_discrete}
-use Rattle.std.proofs.Math.ListN.{get_or, get_or-eq_default}
+use Rattle.std.proofs.Math.ListN.{get_or}
 use Rattle.std.proofs.Math.Seq.{drop-length}
 use Rattle.scan.specs.Scan.{pick}
-use Rattle.scan.specs.Laws.{true-or}
 use Rattle.answers.specs.declared.Checked.TheVariants as checked
 use Rattle.paths.specs.Mesh.{Mesh, width}
 use Rattle.paths.specs.Fan.{filler, relay, hops, Fan}
-use Rattle.paths.specs.Lists.{Lists, Laid, ahead, ahead-length, ahead-at}
+use Rattle.paths.specs.Lists.{Laid}
 use Rattle.paths.specs.Read.{read, fan_lists, fan-laid}
-use Rattle.paths.specs.Bundle.{Bundled, end_of, closed, bundled}
+use Rattle.paths.specs.Bundle.{end_of, closed, bundled}
 use Rattle.paths.specs.Bundles.{longer, Bundle, laid_bundle}
 use Rattle.requests.specs.Planned as requests
 use Rattle.mesh.specs.Kinds.{kind_of, mesh_of}
 use Rattle.mesh.specs.Laws.{known-near}
-use Rattle.mesh.specs.Says.{short}
 use Rattle.mesh.specs.Requests.{Ends, ends-fine, room_enough}
 use Rattle.planner.specs.Needs as planner
 use Rattle.bundle.specs.Says.{Planned}

@@ -1,5 +1,7 @@
 // As many paths as links between two relays, which meet nowhere but at the two: a fan from the source to the relays linked to the target, and each of its paths
 // closed with the target. It is planned in the lent places alone.
+#![tactic(auto)]
+
 ghost use Rattle.std.specs.Prelude.{◌≡◌, ℕ, ◌+◌, ◌*◌, ◌<◌, ◌≤◌, eqb, length, get_or};
 ghost use Rattle.std.proofs.Math.Option.{none};
 ghost use Rattle.scan.specs.Scan.{pick};
