@@ -1,4 +1,6 @@
 // Sheets checked: whether bytes are a sheet, with no slice lent. docs/SHEETS.md has the format byte by byte.
+#![tactic(auto)]
+
 mod body;
 mod heads;
 

@@ -1,4 +1,6 @@
 // Sheets written: a fan as bytes, in version 1 or with its zones in version 2. docs/SHEETS.md has the format byte by byte.
+#![tactic(auto)]
+
 ghost use Rattle.std.specs.Prelude.{◌≡◌, ◌≤◌, ◌<◌, length};
 ghost use Rattle.std.proofs.lemmas.List.Edits.{sets};
 ghost use Rattle.sheet_write.specs.Says as says;

@@ -1,0 +1,10 @@
+-- `dimacs_read::links::wrong` meets its contract: line by line (`Judging`). Assumes nothing.
+use Rattle.std.proofs.Common.{arith, ◌-◌, ◌∙◌, length, rules}
+use Rattle.dimacs_read.specs.Turns.{Judging, as_right, as_fails, as_ends, judge_start, judge_more, judge_found, judge_over, judge_all}
+use Rattle.dimacs_read.proofs.links.wrong.Given as goal
+
+abbrev pub invariant-loop-at : goal.invariant-loop-at
+invariant-loop-at l = Judging l.mesh.kind l.mesh.size l.text l.initial.marks l.at l.line l.marks
+
+abbrev pub decreases-loop-at : goal.decreases-loop-at
+decreases-loop-at l = length l.text - l.at
