@@ -1,4 +1,6 @@
 // What comes back: a value, or the reason why there is none, with the specification's number and place for each.
+#![tactic(auto)]
+
 ghost use Rattle.std.specs.Prelude.{◌≡◌};
 ghost use Rattle.answers.specs.Told as specs;
 
