@@ -13,11 +13,11 @@ overflow_mul-value c = omega (arith, reading-room c.loop-i.invariant c.loop-i-te
 -- src/lib.rt:28:17
 pub overflow_add-value-in-loop-i : goal.overflow_add-value-in-loop-i
 overflow_add-value-in-loop-i c =
-    omega (arith, reading-room c.loop-i.invariant c.loop-i-test.true c.requires.1, c.shared_slice_known-1.given (c.args.at + c.loop-i.i))
+    omega (arith, reading-room c.loop-i.invariant c.loop-i-test.true c.requires.1, c.type_inv.bytes (c.args.at + c.loop-i.i))
 
 -- src/lib.rt:27:5
 pub loop-i-preserved : goal.loop-i-preserved
-loop-i-preserved c = reading-more c.loop-i.invariant c.loop-i-test.true refl (omega (arith, c.shared_slice_known-1.given (c.args.at + c.loop-i.i)))
+loop-i-preserved c = reading-more c.loop-i.invariant c.loop-i-test.true refl (omega (arith, c.type_inv.bytes (c.args.at + c.loop-i.i)))
 
 -- src/lib.rt:21:1
 pub returns : goal.returns

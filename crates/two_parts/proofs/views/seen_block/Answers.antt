@@ -7,10 +7,13 @@ pub returns : goal.returns
 unfolding moved
 returns c =
     let a = c.args in
-    ap₂ (λ (x y : ℕ). x % y) ((let all : let a = c.args in c.exchanged-by_sixteen.result ≡ moved 5 a.b.0 (bit_xor a.x.0 a.a.0) = let b = c.args.b.0 in
+    let b = a.b.0 in
+    -- the five exchanges
+    let all : c.exchanged-by_sixteen.result ≡ moved 5 b (bit_xor a.x.0 a.a.0) =
     c.exchanged-by_sixteen.ensures
     ∙ ap (exchanged (mask 4) 4 b)
     (c.exchanged-by_eight.ensures
     ∙ ap (exchanged (mask 3) 3 b)
     (c.exchanged-by_four.ensures
-    ∙ ap (exchanged (mask 2) 2 b) (c.exchanged-by_two.ensures ∙ ap (exchanged (mask 1) 1 b) c.exchanged-by_one.ensures))) in all)) c.blocks_in.ensures ∙ moved-seen a.order.0 a.a.0 a.b.0 a.x.0 c.requires.order c.requires.slot
+    ∙ ap (exchanged (mask 2) 2 b) (c.exchanged-by_two.ensures ∙ ap (exchanged (mask 1) 1 b) c.exchanged-by_one.ensures))) in
+    ap₂ (λ (x y : ℕ). x % y) all c.blocks_in.ensures ∙ moved-seen a.order.0 a.a.0 b a.x.0 c.requires.order c.requires.slot

@@ -29,25 +29,30 @@ slot_of-requires c = (known_bounds c.args.order.0 c.requires.order).1
 
 pub relay_of-requires : goal.relay_of-requires
 relay_of-requires c =
-    let m = c.args.order.0 in
-    let ha = block-below m c.args.s c.requires.source in
-    let hb = slot-below m c.args.s in
+    let a = c.args in
+    let m = a.order.0 in
+    let ha = block-below m a.s c.requires.source in
+    let hb = slot-below m a.s in
+    -- the block and the slot as they are seen
+    let block_is : c.seen_block.result.0 ≡ seen_block m (block_of m a.s) (slot_of m a.s) (block_of m a.r) =
+    c.seen_block.ensures
+    ∙ ap₂ (λ (x y : ℕ). seen_block m x y c.block_of-2.result.0) c.block_of.ensures c.slot_of-b.ensures
+    ∙ ap (seen_block m (block_of m a.s) (slot_of m a.s)) c.block_of-2.ensures in
+    let slot_is : c.seen_slot.result.0 ≡ seen_slot (slot_of m a.s) (slot_of m a.r) = c.seen_slot.ensures ∙ ap₂ seen_slot c.slot_of-b.ensures c.slot_of.ensures in
     record {
       order = (known_bounds m c.requires.order).1;
-      block = subst (λ (x : ℕ). x < blocks m) (sym ((let block_is : c.seen_block.result.0
-          ≡ seen_block c.args.order.0 (block_of c.args.order.0 c.args.s) (slot_of c.args.order.0 c.args.s) (block_of c.args.order.0 c.args.r) = let a = c.args in
-          let m = a.order.0 in
-          c.seen_block.ensures
-          ∙ ap₂ (λ (x y : ℕ). seen_block m x y c.block_of-2.result.0) c.block_of.ensures c.slot_of-b.ensures
-          ∙ ap (seen_block m (block_of m a.s) (slot_of m a.s)) c.block_of-2.ensures in block_is))) (seen_block-lt m (block_of m c.args.s) (slot_of m c.args.s) ha hb (block_of m c.args.r));
-      slot = subst (λ (x : ℕ). x < slots m) (sym ((let slot_is-2 : c.seen_slot.result.0 ≡ seen_slot (slot_of c.args.order.0 c.args.s) (slot_of c.args.order.0 c.args.r) = c.seen_slot.ensures ∙ ap₂ seen_slot c.slot_of-b.ensures c.slot_of.ensures in slot_is-2))) (seen_slot-lt m (block_of m c.args.s) (slot_of m c.args.s) ha hb (slot_of m c.args.r) (slot-below m c.args.r));
+      block = subst (λ (x : ℕ). x < blocks m) (sym block_is) (seen_block-lt m (block_of m a.s) (slot_of m a.s) ha hb (block_of m a.r));
+      slot = subst (λ (x : ℕ). x < slots m) (sym slot_is) (seen_slot-lt m (block_of m a.s) (slot_of m a.s) ha hb (slot_of m a.r) (slot-below m a.r));
     }
 
 pub returns : goal.returns
 unfolding seen
-returns c = c.relay_of.ensures ∙ ap₂ (relay c.args.order.0) ((let block_is : c.seen_block.result.0
-    ≡ seen_block c.args.order.0 (block_of c.args.order.0 c.args.s) (slot_of c.args.order.0 c.args.s) (block_of c.args.order.0 c.args.r) = let a = c.args in
+returns c =
+    let a = c.args in
     let m = a.order.0 in
+    let block_is : c.seen_block.result.0 ≡ seen_block m (block_of m a.s) (slot_of m a.s) (block_of m a.r) =
     c.seen_block.ensures
     ∙ ap₂ (λ (x y : ℕ). seen_block m x y c.block_of-2.result.0) c.block_of.ensures c.slot_of-b.ensures
-    ∙ ap (seen_block m (block_of m a.s) (slot_of m a.s)) c.block_of-2.ensures in block_is)) ((let slot_is-2 : c.seen_slot.result.0 ≡ seen_slot (slot_of c.args.order.0 c.args.s) (slot_of c.args.order.0 c.args.r) = c.seen_slot.ensures ∙ ap₂ seen_slot c.slot_of-b.ensures c.slot_of.ensures in slot_is-2))
+    ∙ ap (seen_block m (block_of m a.s) (slot_of m a.s)) c.block_of-2.ensures in
+    let slot_is : c.seen_slot.result.0 ≡ seen_slot (slot_of m a.s) (slot_of m a.r) = c.seen_slot.ensures ∙ ap₂ seen_slot c.slot_of-b.ensures c.slot_of.ensures in
+    c.relay_of.ensures ∙ ap₂ (relay m) block_is slot_is
