@@ -1,4 +1,6 @@
 // Kinds, sizes and sources as keys, and a key looked up in a book. Inner: callers meet each `requires`.
+#![tactic(auto)]
+
 ghost use Rattle.std.specs.Prelude.{◌≡◌, false, ◌<◌, ◌≤◌, min, ltb, eqb, length, get_or};
 ghost use Rattle.scan.specs.Scan.{pick};
 ghost use Rattle.book.specs.Ordered.{key_of};

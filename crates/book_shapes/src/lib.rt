@@ -1,4 +1,6 @@
 // What the routines of a book give back to C: number, path and place as the specification tells them, and the head to keep.
+#![tactic(auto)]
+
 ghost use Rattle.std.specs.Prelude.{◌≡◌};
 ghost use Rattle.book_shapes.specs.Shapes as specs;
 

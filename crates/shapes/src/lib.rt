@@ -1,4 +1,6 @@
 // What the routines give back to C: number, path and place as the specification tells them, and the values, which are 0 where something stands against the call.
+#![tactic(auto)]
+
 ghost use Rattle.std.specs.Prelude.{◌≡◌};
 ghost use Rattle.scan.specs.Scan.{pick};
 ghost use Rattle.answers.specs.Told.{answer_told, yes_no_told, against, tell};

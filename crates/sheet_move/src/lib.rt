@@ -1,4 +1,6 @@
 // Sheets moved from one version to the other, over bytes alone. docs/SHEETS.md has both versions byte by byte.
+#![tactic(auto)]
+
 ghost use Rattle.std.specs.Prelude.{◌≡◌, ◌<◌, length};
 ghost use Rattle.mesh.specs.Limits.{most_links, most_places};
 ghost use Rattle.sheet.specs.Format.{VERSION, ZONED};

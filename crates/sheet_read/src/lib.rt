@@ -1,4 +1,6 @@
 // Sheets read: the fan of bytes into lent slices. docs/SHEETS.md has the format byte by byte.
+#![tactic(auto)]
+
 ghost use Rattle.std.specs.Prelude.{◌≡◌, true, ◌≤◌, ltb};
 ghost use Rattle.scan.specs.Scan.{pick};
 ghost use Rattle.mesh.specs.Kinds.{mesh_of, known};

@@ -1,0 +1,16 @@
+-- `book_shapes::of_opened` meets its contract: field by field. Assumes nothing.
+use Rattle.std.proofs.Common.{refl}
+use Rattle.book_shapes.specs.Shapes.{booked-same}
+use Rattle.book_shapes.proofs.of_opened.Goals as goal
+
+pub book-kept-requires : goal.book-kept-requires
+book-kept-requires c = tt
+
+pub number-requires : goal.number-requires
+number-requires c = tt
+
+pub place-requires : goal.place-requires
+place-requires c = tt
+
+pub returns : goal.returns
+returns c = booked-same c.number.ensures refl c.place.ensures c.book-kept.ensures
