@@ -1,4 +1,6 @@
 // A book of sheets kept in two lent slices: a sheet added, found, removed. docs/BOOKS.md has the bytes and the index place by place.
+#![tactic(auto)]
+
 mod puts;
 
 ghost use Rattle.std.specs.Prelude.{◌≡◌};

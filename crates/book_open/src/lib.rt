@@ -1,4 +1,6 @@
 // A book opened again from its used bytes: the index worked out afresh. docs/BOOKS.md has the bytes and the index place by place.
+#![tactic(auto)]
+
 mod steps;
 
 ghost use Rattle.std.specs.Prelude.{◌≡◌, ◌≤◌, length, take};

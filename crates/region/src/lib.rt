@@ -1,4 +1,6 @@
 // The two calls of the region host, before they are exported: bytes in, bytes out, and number * 256 + place as the answer.
+#![tactic(auto)]
+
 mod sheets;
 
 ghost use Rattle.std.specs.Prelude.{◌≡◌, ◌<◌};

@@ -1,4 +1,6 @@
 // A request line answered: the bytes of a line in, the bytes of its answer out.
+#![tactic(auto)]
+
 ghost use Rattle.std.specs.Prelude.{◌≤◌, length};
 ghost use Rattle.reply.specs.Laws.{Ruling};
 ghost use Rattle.reply.specs.Says.{Answered, reply_room};
