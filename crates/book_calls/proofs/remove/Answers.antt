@@ -17,10 +17,10 @@ pub bounds-bytes-start : goal.bounds-bytes-start
 bounds-bytes-start c = let a = c.args in omega (arith, (seeks-whole a.book a.bytes.now a.index.now a.kind a.size a.source (sym c.sought-s.ensures ∙ c.in-At.is)).in_bytes)
 
 pub take_out-requires : goal.take_out-requires
-take_out-requires c = let a = c.args in (omega (arith, c.count-n.ensures, (seeks-whole a.book a.bytes.now a.index.now a.kind a.size a.source (sym c.sought-s.ensures ∙ c.in-At.is)).in-index), count-lent a.book a.index.now c.count-n.ensures)
+take_out-requires c = let a = c.args in (omega (arith, c.count-n.ensures, (seeks-whole a.book a.bytes.now a.index.now a.kind a.size a.source (sym c.sought-s.ensures ∙ c.in-At.is)).in_index), count-lent a.book a.index.now c.count-n.ensures)
 
 pub overflow_sub-result : goal.overflow_sub-result
-overflow_sub-result c = let a = c.args in omega (arith, c.count-n.ensures, (seeks-whole a.book a.bytes.now a.index.now a.kind a.size a.source (sym c.sought-s.ensures ∙ c.in-At.is)).in-index)
+overflow_sub-result c = let a = c.args in omega (arith, c.count-n.ensures, (seeks-whole a.book a.bytes.now a.index.now a.kind a.size a.source (sym c.sought-s.ensures ∙ c.in-At.is)).in_index)
 
 pub returns-in-At : goal.returns-in-At
 returns-in-At c = let a = c.args in gone_done a.book a.bytes.now a.index.now a.kind a.size a.source (sym c.sought-s.ensures ∙ c.in-At.is) c.count-n.ensures refl c.take_out.ensures
