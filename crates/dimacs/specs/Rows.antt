@@ -16,6 +16,7 @@ use Rattle.cube.specs.Cube.{cube}
 use Rattle.cube.specs.Links as plain
 use Rattle.two_parts.specs.Two as two
 use Rattle.two_parts.specs.Near as parts
+use Rattle.two_parts.proofs.NearLaws as partLinks
 use Rattle.mesh.specs.Kinds.{Kind, kind_of, mesh_of, planned}
 use Rattle.mesh.specs.Laws.{planned_case}
 use Rattle.dimacs.specs.Text.{Edge, edge, each, upward, row}
@@ -176,10 +177,10 @@ door_rise m u i j l h = go (lt-or-le j m)
 
 two_rising : (m : ℕ) → Rising (two.two m) (parts.near m)
 two_rising m = record {
-  links = parts.links m;
+  links = partLinks.links m;
   rise = λ u i j h l k g.
-      let a = (parts.doors m).flips u i h (omega arith) in
-      let b = (parts.doors m).flips u j h k in
+      let a = (partLinks.doors m).flips u i h (omega arith) in
+      let b = (partLinks.doors m).flips u j h k in
       let r = flip_rise u (parts.door m u i) (parts.door m u j) (door_rise m u i j l k) (omega arith) in
       omega arith;
 }

@@ -17,10 +17,10 @@ use Rattle.answers.specs.declared.Refusal.TheVariants.{UnknownSize, NotServed}
 use Rattle.cube.specs.Cube as cube
 use Rattle.cube.specs.Links as plain
 use Rattle.two_parts.specs.Two as two
-use Rattle.two_parts.specs.Near as parts
+use Rattle.two_parts.proofs.NearLaws as parts
 use Rattle.meta_parts.specs.Meta as meta
 use Rattle.meta_parts.specs.Sizes.{known-sized}
-use Rattle.meta_parts.specs.Near as metaLinks
+use Rattle.meta_parts.proofs.NearLaws as metaLinks
 use Rattle.paths.specs.Ways.{distance}
 use Rattle.paths.specs.Links.{Links}
 use Rattle.mesh.specs.Kinds.{Kind, cubes, twos, metas, others, CUBE, TWO, META, kind_of, known, planned, mesh_of}

@@ -17,7 +17,8 @@ use Rattle.scan.specs.Laws.{first-true, second-true}
 use Rattle.meta_parts.specs.Meta.{span, bits, relays, class_of, parts_of, part, linked}
 use Rattle.meta_parts.specs.Sizes.{Sized}
 use Rattle.meta_parts.specs.Parts.{class_below, parts_below, same_parts, parts_xor, part-below, part-bit, bit_within, bit-part}
-use Rattle.meta_parts.specs.Near.{opens, linked-bit}
+use Rattle.meta_parts.specs.Near.{opens}
+use Rattle.meta_parts.proofs.NearLaws.{linked-bit}
 use Rattle.meta.specs.Cycle.{after, after_flips}
 use Rattle.meta.specs.Next.{heading, turn, next}
 

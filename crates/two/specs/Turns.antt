@@ -12,7 +12,7 @@ use Rattle.bits.specs.Laws.{trailing_lowest, xor-zero-eq}
 use Rattle.bits.specs.Parts.{lowest_alike}
 use Rattle.scan.specs.Scan.{pick}
 use Rattle.two_parts.specs.Two.{slots, relays, block_of, slot_of, relay}
-use Rattle.two_parts.specs.Near.{flip-slot, flip-block}
+use Rattle.two_parts.proofs.NearLaws.{flip-slot, flip-block}
 use Rattle.two_parts.specs.Parts.{relay_parts, block-below, slot-below}
 use Rattle.two.specs.Next.{crossing, heading, crossed, toward, step, next, next_block, next_slot}
 use Rattle.two.specs.Steps.{pick_same, pick_other, heading-same, heading-other, heading-below, crossed-there, crossed_over, crossed-not, toward-there, toward-moves}

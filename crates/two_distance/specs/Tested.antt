@@ -7,7 +7,8 @@ use Rattle.bits.specs.Bit.{flip}
 use Rattle.scan.specs.Scan.{pick, seek, any}
 use Rattle.scan.specs.Laws.{both_true, any-true}
 use Rattle.two_parts.specs.Two.{relays, two}
-use Rattle.two_parts.specs.Near.{near, links}
+use Rattle.two_parts.specs.Near.{near}
+use Rattle.two_parts.proofs.NearLaws.{links}
 use Rattle.two_distance.specs.Rule.{Rule, rule_shortest}
 use Rattle.paths.specs.Ways.{Shortest}
 use Rattle.two_distance.specs.Tables.{table1, table2, table3, words3, table_of, entry, look}

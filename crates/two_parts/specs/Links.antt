@@ -1,6 +1,6 @@
 -- The links of the two-level mesh. `joined-link`, `link-joined`: what the test of a link says of blocks and slots; `linked-link`,
 -- `link-linked`: the same of relays. `link_within`: a link leads to a block and a slot of the mesh. What follows of its links is told of
--- any mesh, from Near.antt. Assumes nothing.
+-- any mesh, from proofs/NearLaws.antt. Assumes nothing.
 use Rattle.std.specs.Prelude.{ℕ, ◌^◌, ◌<◌, ◌≡◌, Bool, true, false, ◌&&◌, ◌||◌, ◌⊎◌, ◌≢◌, eqb}
 use Rattle.std.proofs.Common.{sym, ap, ap₂, ◌∙◌, subst, inl, inr, ⊎_elim, arith, pow_pos, eqb-true, eq-eqb, ne_eqb}
 use Rattle.std.proofs.Math.Bool.{and-false, or-false}

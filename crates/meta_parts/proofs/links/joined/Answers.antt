@@ -1,10 +1,10 @@
 -- `meta_parts::links::joined` meets its contract. Assumes nothing.
-use Rattle.std.proofs.Common.{refl, sym, ap, ◌∙◌, rules, arith}
+use Rattle.std.proofs.Common.{refl, sym, ap, ◌∙◌, arith}
 use lib.Count.{ones}
 use Rattle.bits.specs.Laws.{ones-zero}
 use Rattle.meta_parts.specs.Meta.{class_bits, part_bits}
 use Rattle.meta_parts.specs.Sizes.{known-sized}
-use Rattle.meta_parts.specs.Near.{linked-bit, linked-not, lowest_flip, one-not}
+use Rattle.meta_parts.proofs.NearLaws.{linked-bit, linked-not, lowest_flip, one-not}
 use Rattle.meta_parts.proofs.links.joined.Goals as goal
 
 pub lowest-requires : goal.lowest-requires

@@ -1,10 +1,10 @@
 -- `meta_parts::links::near` meets its contract. Assumes nothing.
-use Rattle.std.proofs.Common.{ℕ, ◌+◌, ◌-◌, ◌*◌, ◌<◌, ◌≡◌, refl, sym, ap, ap₂, ◌∙◌, rules, arith}
+use Rattle.std.proofs.Common.{ℕ, ◌+◌, ◌-◌, ◌*◌, ◌<◌, ◌≡◌, sym, ap, ap₂, ◌∙◌, arith}
 use Rattle.bits.specs.Bit.{flip}
-use Rattle.meta_parts.specs.Meta.{class_bits, part_bits, span, class_of}
-use Rattle.meta_parts.specs.Sizes.{Sized, span-few}
+use Rattle.meta_parts.specs.Meta.{class_bits, part_bits, class_of}
+use Rattle.meta_parts.specs.Sizes.{span-few}
 use Rattle.meta_parts.specs.Parts.{class_below, bit_within}
-use Rattle.meta_parts.specs.Near.{near-part, near_class}
+use Rattle.meta_parts.proofs.NearLaws.{near-part, near_class}
 use Rattle.meta_parts.specs.Needs.{fine-sized}
 use Rattle.meta_parts.proofs.links.near.Goals as goal
 

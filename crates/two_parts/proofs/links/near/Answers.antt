@@ -4,7 +4,7 @@ use Rattle.bits.specs.Bit.{flip}
 use Rattle.bits.specs.Laws.{flip-lt}
 use Rattle.two_parts.specs.Two.{blocks, slots, block_of, slot_of, relay}
 use Rattle.two_parts.specs.Parts.{known_bounds, block-below, slot-below, slots-few}
-use Rattle.two_parts.specs.Near.{near-inside, near-across}
+use Rattle.two_parts.proofs.NearLaws.{near-inside, near-across}
 use Rattle.two_parts.specs.Needs.{Fine, Placed}
 use Rattle.two_parts.proofs.links.near.Goals as goal
 

@@ -1,0 +1,2 @@
+-- The laws of a relay's links.
+pub mod NearLaws
