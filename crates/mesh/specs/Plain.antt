@@ -25,7 +25,7 @@ use Rattle.two.specs.Once as twos
 use Rattle.meta_parts.specs.Meta as meta
 use Rattle.meta_parts.specs.Sizes.{known-sized}
 use Rattle.meta.specs.Next as metaWalk
-use Rattle.meta.specs.Once as metas
+use Rattle.meta.proofs.Once as metas
 use Rattle.mesh.specs.Kinds.{Kind, kind_of, mesh_of, known}
 use Rattle.mesh.specs.Laws.{known_case}
 use Rattle.mesh.specs.Says.{size_faults_in, route_against, route_told, route_leaves}

@@ -3,10 +3,6 @@ pub mod Cycle
 pub mod Next
 pub mod Says
 pub mod Needs
-pub mod Turns
 pub mod Far
-pub mod Ranks
-pub mod Once
-pub mod Walks
 pub mod Unique
 pub mod Cases

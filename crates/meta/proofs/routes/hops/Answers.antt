@@ -1,9 +1,8 @@
-use Rattle.std.proofs.Common.{ℕ, ◌-◌, ◌≤◌, ◌<◌, ◌≡◌, sym, ap, ◌∙◌, arith}
-use Rattle.paths.specs.Walk.{node}
+use Rattle.std.proofs.Common.{ℕ, ◌<◌, sym, ap, ◌∙◌, arith}
 use Rattle.paths.specs.Walks.{node-start, node-more}
 use Rattle.paths.specs.Walked.{walk-short, walk-all}
 use Rattle.meta.specs.Says.{next, hops}
-use Rattle.meta.specs.Walks.{arrives, hops-few, on-way}
+use Rattle.meta.proofs.Walks.{arrives, hops-few, on-way}
 use Rattle.meta.proofs.routes.hops.Goals as goal
 
 pub loop-at-init : goal.loop-at-init

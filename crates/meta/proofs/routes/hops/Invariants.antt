@@ -1,10 +1,7 @@
 -- `meta::routes::hops` meets its contract. The invariant: after k hops, of at most as many as are needed, the walk is at `at`. Assumes nothing.
-use Rattle.std.proofs.Common.{ℕ, ◌-◌, ◌≤◌, ◌<◌, ◌≡◌, sym, ap, ◌∙◌, arith}
+use Rattle.std.proofs.Common.{ℕ, ◌-◌, ◌≤◌, ◌≡◌}
 use Rattle.paths.specs.Walk.{node}
-use Rattle.paths.specs.Walks.{node-start, node-more}
-use Rattle.paths.specs.Walked.{walk-short, walk-all}
 use Rattle.meta.specs.Says.{next, hops}
-use Rattle.meta.specs.Walks.{arrives, hops-few, on-way}
 use Rattle.meta.proofs.routes.hops.Given as goal
 
 pub record Inv (n s t at k : ℕ) : Type 0 where

@@ -1,8 +1,8 @@
-use Rattle.std.proofs.Common.{◌-◌, ◌<◌, arith, rules, length-set}
-use Rattle.paths.specs.Walked.{Walked, walk_starts, walk-short, walk_goes_on, walk_ends}
+use Rattle.std.proofs.Common.{◌<◌, arith}
+use Rattle.paths.specs.Walked.{walk_starts, walk-short, walk_goes_on, walk_ends}
 use Rattle.meta.specs.Next as def
 use Rattle.meta.specs.Says.{next, hops}
-use Rattle.meta.specs.Walks.{arrives, on-way}
+use Rattle.meta.proofs.Walks.{arrives, on-way}
 use Rattle.meta.proofs.routes.walk.Goals as goal
 
 pub loop-at-init : goal.loop-at-init

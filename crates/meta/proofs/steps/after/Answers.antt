@@ -1,8 +1,9 @@
 -- `meta::steps::after` meets its contract. Assumes nothing.
-use Rattle.std.proofs.Common.{ℕ, ◌+◌, ◌/◌, ◌%◌, ap, ◌∙◌, rules, arith, bit_xor, pow_pos, pow_mono}
+use Rattle.std.proofs.Common.{ℕ, ◌+◌, ◌/◌, ◌%◌, ap, ◌∙◌, arith, bit_xor}
 use Rattle.bits.specs.Gray.{gray}
 use Rattle.meta_parts.specs.Sizes.{classes_few}
-use Rattle.meta.specs.Cycle.{place, after, place-few}
+use Rattle.meta.specs.Cycle.{place, after}
+use Rattle.meta.proofs.Cycle.{place-few}
 use Rattle.meta.proofs.steps.after.Goals as goal
 
 pub overflow_add-place : goal.overflow_add-place

@@ -1,11 +1,11 @@
 -- `meta::steps::heading` meets its contract. Assumes nothing.
-use Rattle.std.proofs.Common.{ℕ, ◌%◌, ◌^◌, ◌<◌, ◌≡◌, sym, ap, ap₂, ◌∙◌, subst, rules, arith, bit_xor, pow_pos}
+use Rattle.std.proofs.Common.{ℕ, ◌%◌, ◌^◌, ◌<◌, ◌≡◌, sym, ap, ap₂, ◌∙◌, subst, arith, bit_xor}
 use Rattle.meta_parts.specs.Meta.{class_bits, part_bits, class_of, parts_of}
 use Rattle.meta_parts.specs.Sizes.{span-few}
 use Rattle.meta_parts.specs.Parts.{class_below}
 use Rattle.meta_parts.specs.Needs.{fine-sized}
 use Rattle.meta.specs.Cycle.{after}
-use Rattle.meta.specs.Turns.{heading_done, heading-on}
+use Rattle.meta.proofs.Turns.{heading_done, heading-on}
 use Rattle.meta.proofs.steps.heading.Goals as goal
 
 pub span_in-span-requires : goal.span_in-span-requires

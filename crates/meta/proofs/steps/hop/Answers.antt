@@ -3,8 +3,8 @@ use Rattle.std.proofs.Common.{sym, ap, ◌∙◌, arith}
 use Rattle.bits.specs.Bit.{flip}
 use Rattle.meta_parts.specs.Meta.{class_bits, part_bits}
 use Rattle.meta_parts.specs.Needs.{fine-sized}
-use Rattle.meta.specs.Turns.{turn_below, next_flips}
-use Rattle.meta.specs.Once.{next-there}
+use Rattle.meta.proofs.Turns.{turn_below, next_flips}
+use Rattle.meta.proofs.Once.{next-there}
 use Rattle.meta.proofs.steps.hop.Goals as goal
 
 pub returns-then-u-t : goal.returns-then-u-t

@@ -1,12 +1,12 @@
 -- `meta::steps::turn` meets its contract. Assumes nothing.
-use Rattle.std.proofs.Common.{ℕ, ◌+◌, ◌*◌, ◌^◌, ◌≤◌, ◌<◌, ◌≡◌, sym, ap, ap₂, ◌∙◌, subst, ◌≢◌, rules, arith, bit_xor}
+use Rattle.std.proofs.Common.{ℕ, ◌+◌, ◌*◌, ◌<◌, ◌≡◌, sym, ap, ap₂, ◌∙◌, subst, arith, bit_xor}
 use Rattle.bits.specs.Bit.{Lowest}
 use Rattle.meta_parts.specs.Meta.{class_bits, part_bits, class_of, part, span, metacube}
 use Rattle.meta_parts.specs.Sizes.{part-bits, span-few, Sized}
 use Rattle.meta_parts.specs.Parts.{class_below, bit_within}
 use Rattle.meta_parts.specs.Needs.{fine-sized}
 use Rattle.meta.specs.Next.{heading, turn}
-use Rattle.meta.specs.Turns.{class_differs, turn_class_is, turn-part_is}
+use Rattle.meta.proofs.Turns.{class_differs, turn_class_is, turn-part_is}
 use Rattle.meta.proofs.steps.turn.Goals as goal
 
 -- a bit of the own part is one of the 37

@@ -1,22 +1,23 @@
 -- How far it is to the target, at most (`rank`): while some part differs, the differing part bits, the moves of the class to the last class whose part differs, and its k bits; then the
 -- differing class bits. Each hop brings it down (`next-less`), and at the start it is at most 2 ^ k - 1 + k above the differing part bits (`rank_bound`). Assumes nothing.
-use Rattle.std.specs.Prelude.{ℕ, zero, suc, ◌+◌, ◌-◌, ◌*◌, ◌^◌, ◌≤◌, ◌<◌, ◌≡◌, refl, Bool, ◌≢◌, ◌⊎◌, eqb}
-use Rattle.std.proofs.Common.{sym, ap₂, ◌∙◌, inl, inr, ⊎_elim, arith, pow_pos, eq-eqb, ne_eqb}
+use Rattle.std.specs.Prelude.{ℕ, ◌+◌, ◌-◌, ◌*◌, ◌^◌, ◌≤◌, ◌<◌, ◌≡◌, Bool, ◌≢◌, eqb}
+use Rattle.std.proofs.Common.{sym, ap₂, ◌∙◌, ⊎_elim, arith, eq-eqb, ne_eqb}
 use Rattle.std.proofs.Math.Path.{ap, subst}
 use Rattle.std.proofs.Math.Decide.{ℕ_discrete}
 use Rattle.std.specs.Int.Bits.{bit_xor}
 use Rattle.std.proofs.lemmas.Nat.{xor_lt, ones-le}
 use Rattle.std.specs.Int.Count.{ones, count_trailing_zeros}
 use Rattle.bits.specs.Bit.{bit, flip}
-use Rattle.bits.specs.Laws.{bit-none, clash, flip-lt, flip-same, flip-other, flip-xor, ones_clear, same_or, trailing_lowest}
+use Rattle.bits.specs.Laws.{bit-none, clash, flip-other, flip-xor, ones_clear, same_or, trailing_lowest}
 use Rattle.scan.specs.Scan.{pick}
 use Rattle.meta_parts.specs.Meta.{span, relays, longest, class_of, parts_of, part}
 use Rattle.meta_parts.specs.Sizes.{Sized}
 use Rattle.meta_parts.specs.Parts.{class_below, parts_below, class_high, parts_high, class_low, parts_low, part-below, part-bit, part_out, bit_within}
-use Rattle.meta.specs.Cycle.{after, away, away-few, away-step}
+use Rattle.meta.specs.Cycle.{after}
+use Rattle.meta.proofs.Cycle.{away-few, away-step}
 use Rattle.meta.specs.Far.{far, far-most, far_least, far_fewer, far-moved}
-use Rattle.meta.specs.Next.{turn, next}
-use Rattle.meta.specs.Turns.{Turning, inside, onward, homeward, turning, next_flips, part-of_parts, some-part, some-bit}
+use Rattle.meta.specs.Next.{next}
+use Rattle.meta.proofs.Turns.{Turning, inside, onward, homeward, turning, next_flips, part-of_parts, some-part, some-bit}
 
 -- between classes c and d, where the bits of y differ
 unfoldable pub rest : (k m c d y : ℕ) → ℕ

@@ -1,6 +1,6 @@
 -- The plain route of a metacube, of every size: it is one within the longest path (`plain_routed`), has at most 2 ^ k - 1 + k hops above the number of differing part bits
 -- (`hops_bound`), and visits no relay twice (`plain_once`): its rank falls with each hop. Assumes nothing.
-use Rattle.std.specs.Prelude.{ℕ, ◌+◌, ◌-◌, ◌^◌, ◌≤◌, ◌<◌, ◌≡◌, Bool, eqb}
+use Rattle.std.specs.Prelude.{ℕ, ◌+◌, ◌-◌, ◌^◌, ◌≤◌, ◌<◌, ◌≡◌, Bool}
 use Rattle.std.proofs.Common.{ap, arith, eq-eqb}
 use Rattle.std.proofs.Math.Decide.{ℕ_discrete}
 use Rattle.std.specs.Int.Bits.{bit_xor}
@@ -13,8 +13,8 @@ use Rattle.paths.specs.Ranked.{Ranked, ranked_most, ranked_routed}
 use Rattle.meta_parts.specs.Meta.{relays, class_of, parts_of, meta}
 use Rattle.meta_parts.specs.Sizes.{Sized}
 use Rattle.meta.specs.Next.{turn, next, hops, route}
-use Rattle.meta.specs.Turns as turns
-use Rattle.meta.specs.Ranks.{rank, rank_bound, rank-longest, next-less}
+use Rattle.meta.proofs.Turns as turns
+use Rattle.meta.proofs.Ranks.{rank, rank_bound, rank-longest, next-less}
 
 -- the target is its own next hop
 pub next-there : (k m u t : ℕ) → u ≡ t → next k m u t ≡ u

@@ -1,16 +1,16 @@
 -- One hop: a bit of the own class's part is corrected, or the class moves on along the cycle while another part differs, or, where all parts agree, a bit of the class is
 -- corrected (`turning`). So a hop is a link (`next-linked`) and stays in the mesh (`next-below`). Assumes nothing.
-use Rattle.std.specs.Prelude.{ℕ, zero, suc, ◌+◌, ◌-◌, ◌*◌, ◌/◌, ◌%◌, ◌^◌, ◌≤◌, ◌<◌, ◌≡◌, refl, Bool, true, ◌≢◌, ◌⊎◌, eqb, leb}
+use Rattle.std.specs.Prelude.{ℕ, zero, suc, ◌+◌, ◌*◌, ◌/◌, ◌%◌, ◌^◌, ◌<◌, ◌≡◌, Bool, true, ◌≢◌, eqb, leb}
 use Rattle.std.proofs.Math.Path.{sym, ap}
-use Rattle.std.proofs.Common.{ap₂, ◌∙◌, subst, inl, inr, mul_comm, arith, eq-eqb, ne_eqb, le-leb}
+use Rattle.std.proofs.Common.{◌∙◌, subst, mul_comm, arith, eq-eqb, ne_eqb, le-leb}
 use Rattle.std.proofs.Math.Decide.{ℕ_discrete}
 use Rattle.std.proofs.Math.Arith.{digits_div}
-use Rattle.std.specs.Int.Bits.{bit_xor, xor_zero_r}
+use Rattle.std.specs.Int.Bits.{bit_xor}
 use Rattle.std.proofs.lemmas.Nat.{xor_lt}
 use Rattle.std.specs.Int.Count.{count_trailing_zeros}
 use Rattle.std.proofs.Math.Pow.{pow-lt}
 use Rattle.bits.specs.Bit.{bit, flip, Lowest}
-use Rattle.bits.specs.Laws.{bit-none, bit-pow-same, clash, flip-lt, flip-moves, lowest_one, pow-bit, trailing_lowest, xor-zero-eq, lt-or-le}
+use Rattle.bits.specs.Laws.{bit-none, bit-pow-same, clash, flip-lt, pow-bit, trailing_lowest, xor-zero-eq}
 use Rattle.bits.specs.Parts.{bit-mod, flip_is_xor, lowest_alike}
 use Rattle.scan.specs.Scan.{pick}
 use Rattle.scan.specs.Laws.{first-true, second-true}
@@ -19,7 +19,8 @@ use Rattle.meta_parts.specs.Sizes.{Sized}
 use Rattle.meta_parts.specs.Parts.{class_below, parts_below, same_parts, parts_xor, part-below, part-bit, bit_within, bit-part}
 use Rattle.meta_parts.specs.Near.{opens}
 use Rattle.meta_parts.proofs.NearLaws.{linked-bit}
-use Rattle.meta.specs.Cycle.{after, after_flips}
+use Rattle.meta.specs.Cycle.{after}
+use Rattle.meta.proofs.Cycle.{after_flips}
 use Rattle.meta.specs.Next.{heading, turn, next}
 
 -- ---- a number that is not 0 has a set bit

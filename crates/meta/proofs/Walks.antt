@@ -7,7 +7,7 @@ use Rattle.meta_parts.specs.Meta.{class_bits, part_bits, metacube}
 use Rattle.meta_parts.specs.Sizes.{longest-few}
 use Rattle.meta_parts.specs.Needs.{Fine, fine-sized}
 use Rattle.meta.specs.Says.{next, hops}
-use Rattle.meta.specs.Once.{plain_routed}
+use Rattle.meta.proofs.Once.{plain_routed}
 
 module _ {n s t : ℕ} (f : Fine n s t) where
   abbrev k : ℕ
