@@ -9,11 +9,9 @@ pub mod Read
 pub mod Forced
 pub mod Clear
 pub mod Keeps
-pub mod Judged
 pub mod Alike
 pub mod Whole
 pub mod Cuts
-pub mod Survive
 pub mod Walk
 pub mod Walks
 pub mod Walked

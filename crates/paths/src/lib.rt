@@ -1,4 +1,4 @@
-// What a path and a fan are, over any mesh: definitions and theorems, all in specs/.
+// What a path and a fan are, over any mesh: definitions and theorems, in specs/ and proofs/.
 #![tactic(auto)]
 
 // The filler of an unused place: 2^64 - 1.

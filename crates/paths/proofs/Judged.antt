@@ -8,7 +8,8 @@ use Rattle.paths.specs.Mesh.{Mesh, width}
 use Rattle.paths.specs.Rules.{fan_rules}
 use Rattle.paths.specs.Fan.{Fan, relay, hops}
 use Rattle.paths.specs.Finding.{clean, finding}
-use Rattle.paths.specs.Keeps.{Keeps, clean_keeps, keeps_clean}
+use Rattle.paths.specs.Keeps.{Keeps}
+use Rattle.paths.proofs.Keeps.{clean_keeps, keeps_clean}
 
 module _ (m : Mesh) (s : ℕ) (targets places counts : List ℕ) where
   abbrev at_place : (i p : ℕ) → ℕ

@@ -18,7 +18,8 @@ use Rattle.paths.specs.Finding.{on}
 use Rattle.paths.specs.Places.{relay-among, on-at}
 use Rattle.paths.specs.Bundles.{Bundle, bundle_rules}
 use Rattle.paths.specs.Whole.{Failed, failures, cut, stops, severs, broken, whole, relays_of, link, numbered, links_of}
-use Rattle.paths.specs.Cuts.{Two, linked-link, numbered-two, cut-counts, stop_counts, counts-stopped}
+use Rattle.paths.specs.Cuts.{Two, linked-link, stop_counts, counts-stopped}
+use Rattle.paths.proofs.Cuts.{numbered-two, cut-counts}
 
 module _ (w : ℕ) (places counts : List ℕ) where
   -- whether path i has a link with this number
