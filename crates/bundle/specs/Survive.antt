@@ -9,9 +9,10 @@ use Rattle.answers.specs.declared.Checked.{Checked}
 use Rattle.scan.specs.Scan.{count, has}
 use Rattle.paths.specs.Mesh.{Mesh, width}
 use Rattle.paths.specs.Finding.{clean}
-use Rattle.paths.specs.Bundles.{longer, Bundle, bundle_finding, bundle_clean}
+use Rattle.paths.specs.Bundles.{longer, Bundle, bundle_finding}
+use Rattle.paths.proofs.Bundles.{bundle_clean}
 use Rattle.paths.specs.Whole.{Failed, failures, whole}
-use Rattle.paths.specs.Survive.{bundle_survives}
+use Rattle.paths.proofs.Survive.{bundle_survives}
 use Rattle.requests.specs.Planned.{planned-against}
 use Rattle.mesh.specs.Kinds.{Kind}
 use Rattle.mesh.specs.Says.{bundle_against}

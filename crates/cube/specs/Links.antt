@@ -9,7 +9,8 @@ use Rattle.bits.specs.Bit.{flip}
 use Rattle.bits.specs.Laws.{ones-one, ones-pow}
 use Rattle.bits.specs.Parts.{xor_forth, xor-flip}
 use Rattle.paths.specs.Links.{Links}
-use Rattle.paths.specs.Doors.{Doors, door-links}
+use Rattle.paths.specs.Doors.{Doors}
+use Rattle.paths.proofs.Doors.{door-links}
 use Rattle.cube.specs.Cube.{linked, cube}
 
 pub linked-flip : (u i : ℕ) → linked u (flip u i) ≡ true

@@ -7,7 +7,8 @@ use Rattle.scan.specs.Scan.{pick}
 use Rattle.answers.specs.Order.{first, room_faults}
 use Rattle.paths.specs.Mesh.{Mesh, width}
 use Rattle.paths.specs.Rules.{span}
-use Rattle.paths.specs.Alike.{Same, finding_alike}
+use Rattle.paths.specs.Alike.{Same}
+use Rattle.paths.proofs.Alike.{finding_alike}
 use Rattle.mesh.specs.Says.{short}
 use Rattle.judge.specs.Says.{rule, Asked, cramped, asked_told}
 

@@ -7,8 +7,9 @@ use Rattle.scan.specs.Scan.{pick}
 use Rattle.answers.specs.declared.Refusal.{Refusal}
 use Rattle.paths.specs.Fan.{Fan}
 use Rattle.paths.specs.Finding.{clean}
-use Rattle.paths.specs.Judged.{clean_fan, fan_clean}
-use Rattle.paths.specs.Bundles.{Bundle, clean_bundle, bundle_clean}
+use Rattle.paths.proofs.Judged.{clean_fan, fan_clean}
+use Rattle.paths.specs.Bundles.{Bundle}
+use Rattle.paths.proofs.Bundles.{clean_bundle, bundle_clean}
 use Rattle.mesh.specs.Kinds.{Kind}
 use Rattle.mesh.specs.Says.{bundle_against, bundle_short}
 use Rattle.judge.specs.Says.{Asked, fan_asked, bundle_asked, asked_against, asked_finding, asked_told, rule, verdict_told, judge_against, judge_told, bundle_told}

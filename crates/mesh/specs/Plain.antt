@@ -16,7 +16,8 @@ use Rattle.paths.specs.Lists.{Fresh}
 use Rattle.paths.specs.Walk as walk
 use Rattle.paths.specs.Walks.{route-length}
 use Rattle.paths.specs.Routed as paths
-use Rattle.paths.specs.Routed.{Routed, routed-fan}
+use Rattle.paths.specs.Routed.{Routed}
+use Rattle.paths.proofs.Routed.{routed-fan}
 use Rattle.cube.specs.Sizes.{known-most}
 use Rattle.cube.specs.Route as cube
 use Rattle.cube.specs.Once as cubes

@@ -19,7 +19,8 @@ use Rattle.bits.specs.Parts.{xor-flip, flip_is_xor}
 use Rattle.scan.specs.Scan.{pick}
 use Rattle.scan.specs.Laws.{both_true, either_true}
 use Rattle.paths.specs.Links.{Links}
-use Rattle.paths.specs.Doors.{Doors, door-links}
+use Rattle.paths.specs.Doors.{Doors}
+use Rattle.paths.proofs.Doors.{door-links}
 use Rattle.meta_parts.specs.Meta.{span, bits, relays, class_of, part, one, linked, meta}
 use Rattle.meta_parts.specs.Parts.{class_below, class_high, class_low, part_in, part_out, bit_within, bit-part}
 use Rattle.meta_parts.specs.Near.{opens, door, near}

@@ -8,7 +8,7 @@ use Rattle.answers.specs.declared.Checked.{Checked}
 use Rattle.scan.specs.Scan.{count, has}
 use Rattle.paths.specs.Mesh.{width}
 use Rattle.paths.specs.Whole.{Failed, failures, whole}
-use Rattle.paths.specs.Survive.{fan_survives}
+use Rattle.paths.proofs.Survive.{fan_survives}
 use Rattle.requests.specs.Planned.{Planned, planned-against}
 use Rattle.mesh.specs.Kinds.{Kind}
 use Rattle.mesh.specs.Says.{planned_against}

@@ -13,7 +13,7 @@ use Rattle.answers.specs.declared.Checked.TheVariants as checked
 use Rattle.paths.specs.Mesh.{Mesh, width}
 use Rattle.paths.specs.Fan.{Fan}
 use Rattle.paths.specs.Finding.{clean, finding}
-use Rattle.paths.specs.Judged.{fan_clean}
+use Rattle.paths.proofs.Judged.{fan_clean}
 
 -- what comes back and what the slices hold afterwards, where o stands against k paths of w places each, which are to be P
 pub record PlannedAs (o : Option Refusal) (k w : ℕ) (P : (places counts : List ℕ) → Type 0) (places counts : List ℕ) (r : Checked) (places₁ counts₁ : List ℕ) : Type 0 where

@@ -8,8 +8,9 @@ use Rattle.paths.specs.Mesh.{Mesh, width}
 use Rattle.paths.specs.Rules.{fan_rules}
 use Rattle.paths.specs.Fan.{Fan}
 use Rattle.paths.specs.Finding.{Finding, finding}
-use Rattle.paths.specs.Judged.{clean_fan, fan_clean}
-use Rattle.paths.specs.Alike.{Same, finding_alike}
+use Rattle.paths.proofs.Judged.{clean_fan, fan_clean}
+use Rattle.paths.specs.Alike.{Same}
+use Rattle.paths.proofs.Alike.{finding_alike}
 use Rattle.mesh.specs.Kinds.{Kind}
 use Rattle.mesh.specs.Says.{request_against, short}
 use Rattle.mesh.specs.Requests.{Fine, request_fine, request_passed, room_enough}

@@ -9,7 +9,7 @@ use Rattle.answers.specs.Order as order
 use Rattle.answers.specs.declared.Refusal.{Refusal}
 use Rattle.paths.specs.Rules.{span}
 use Rattle.paths.specs.Finding.{Finding, clean, found}
-use Rattle.paths.specs.Keeps.{clean_keeps}
+use Rattle.paths.proofs.Keeps.{clean_keeps}
 use Rattle.paths.specs.Places.{row_below}
 use Rattle.paths.specs.Bundles.{ends_at}
 use Rattle.paths.specs.Whole.{Failed}

@@ -15,11 +15,12 @@ use Rattle.paths.specs.Mesh.{Mesh, width}
 use Rattle.paths.specs.Rules.{Rules, span}
 use Rattle.paths.specs.Fan.{PathBy, Fan, relay, hops}
 use Rattle.paths.specs.Finding.{clean}
-use Rattle.paths.specs.Bundles.{Bundle, bundle_rules, clean_bundle}
+use Rattle.paths.specs.Bundles.{Bundle, bundle_rules}
+use Rattle.paths.proofs.Bundles.{clean_bundle}
 use Rattle.paths.specs.Whole.{Failed, failed, failures, cut, stops, severs, broken, whole, relays_of, link, links_of}
 use Rattle.paths.specs.Cuts.{pair-two, link-two}
-use Rattle.paths.specs.Judged.{clean_fan}
-use Rattle.paths.specs.Survive.{relay_within, link_within, fan_survives, none_survives, bundle_survives, start-stopped, end-stopped}
+use Rattle.paths.proofs.Judged.{clean_fan}
+use Rattle.paths.proofs.Survive.{relay_within, link_within, fan_survives, none_survives, bundle_survives, start-stopped, end-stopped}
 use Rattle.mesh.specs.Kinds.{Kind}
 use Rattle.mesh.specs.Requests.{request_fine, ends-fine}
 use Rattle.judge.specs.Says.{verdict_told, fan_asked, bundle_asked, Asked, asked_finding}

@@ -7,7 +7,7 @@ use Rattle.paths.specs.Fan.{Fan}
 use Rattle.paths.specs.Bundles.{Bundle}
 use Rattle.paths.specs.Ways.{Way, Shortest, distance, shortest_one}
 use Rattle.paths.specs.Metric.{shortest_back, shortest_none, shortest_home, shortest_by, fan_least, bundle_least}
-use Rattle.paths.specs.Routed.{routed-way}
+use Rattle.paths.proofs.Routed.{routed-way}
 use Rattle.two_parts.specs.Two.{relays, two}
 use Rattle.two_parts.proofs.NearLaws.{links}
 use Rattle.two.specs.Next.{next, hops}

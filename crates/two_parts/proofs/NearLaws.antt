@@ -8,7 +8,8 @@ use Rattle.bits.specs.Laws.{flip-lt, lt-or-le}
 use Rattle.bits.specs.Parts.{flip_high_div, flip_high_mod, flip-low-div, flip-low-mod}
 use Rattle.scan.specs.Scan.{pick}
 use Rattle.paths.specs.Links.{Links}
-use Rattle.paths.specs.Doors.{Doors, door-links}
+use Rattle.paths.specs.Doors.{Doors}
+use Rattle.paths.proofs.Doors.{door-links}
 use Rattle.two_parts.specs.Two.{block_of, slot_of, relay, linked, two}
 use Rattle.two_parts.specs.Parts.{block-relay, slot-relay, relay_parts, slot-below, same_parts}
 use Rattle.two_parts.specs.Links.{Link, linked-link, link-linked}

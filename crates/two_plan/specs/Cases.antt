@@ -6,7 +6,7 @@ use Rattle.scan.specs.Scan.{seek, any, among}
 use Rattle.paths.specs.Fan.{filler, relay, hops, Fan}
 use Rattle.paths.specs.Finding.{finding_by, finding_from, finding_of, unlinked_at, seen_at, unfilled_at, unlinked, seen, twinned, on, unfilled}
 use Rattle.paths.specs.Forced.{Links, At, other, links, first, onward, arrived, meets}
-use Rattle.paths.specs.Judged.{clean_fan}
+use Rattle.paths.proofs.Judged.{clean_fan}
 use Rattle.paths.specs.Lists.{Lists}
 use Rattle.paths.specs.Read.{read, fan_lists}
 use Rattle.two_parts.specs.Two.{joined, linked, two}
