@@ -1,4 +1,6 @@
 // The library for programs in C and C++: every routine as an exported function over numbers and slices. include/gustparsley.h declares them.
+#![tactic(auto)]
+
 mod books;
 mod calls;
 mod frames;
