@@ -14,7 +14,7 @@ use Rattle.two_math.specs.Relays.{Relay}
 use Rattle.two_math.specs.Through.{Crosses, through}
 use Rattle.two_math.specs.Plan.{Role, Draft}
 use Rattle.two_math.specs.Shut.{some-row}
-use Rattle.two_math.specs.Roles.{drafted, heads_request}
+use Rattle.two_math.proofs.Roles.{drafted, heads_request}
 use Rattle.two_math.specs.Someone.{someone, few-walk}
 use Rattle.two_math.specs.Loops.{last}
 use Rattle.two_choose.specs.declared.Choice.{Choice}

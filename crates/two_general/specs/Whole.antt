@@ -13,7 +13,7 @@ use Rattle.cube_math.specs.Plain.{bit-full}
 use Rattle.two_parts.specs.Two.{two}
 use Rattle.two_math.specs.Relays.{Relay, inside}
 use Rattle.two_math.specs.Plan.{Role, Draft}
-use Rattle.two_math.specs.Roles.{drafted, finished}
+use Rattle.two_math.proofs.Roles.{drafted, finished}
 use Rattle.two_math.specs.Assemble.{most, TwoFan}
 use Rattle.two_math.specs.Numbers.{numbers, block, slot, numbers-fan, ask_numbers}
 use Rattle.two_choose.specs.declared.Choice.{Choice}

@@ -7,7 +7,8 @@ use Rattle.cube_math.specs.Doors.{Doors}
 use Rattle.cube_math.specs.Request.{Request}
 use Rattle.two_math.specs.Relays.{Relay, inside}
 use Rattle.two_math.specs.Assemble.{TwoFan}
-use Rattle.two_math.specs.Plan.{Role, Draft, Plan, plan_fan}
+use Rattle.two_math.specs.Plan.{Role, Draft, Plan}
+use Rattle.two_math.proofs.Plan.{plan_fan}
 use Rattle.two_math.specs.Gates.{Gates}
 use Rattle.two_math.specs.Sort.{Ask, Sorts, Keeps, Ends}
 use Rattle.two_math.specs.Shut.{Shuts, gate-below, inner_shut, gate_shut, plan_gates}
