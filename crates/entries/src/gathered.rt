@@ -13,7 +13,7 @@ use survivors::Tally;
 const MOST: usize = mesh::ANY_LINKS;
 
 // What comes back, how many entries there are to write (none of a refusal or a finding), and their columns.
-#[derive(Drop)]
+#[derive(Clone, Copy)]
 pub struct Gathered {
     pub tally: Tally,
     pub k: usize,

@@ -1,1 +1,2 @@
 // The round trips of sheets: theorems, all in specs/.
+#![tactic(auto)]
