@@ -1,4 +1,6 @@
 // Survivors over one lent list of entries: a thin function over the plain one, which fills four columns of numbers.
+#![tactic(auto)]
+
 mod gathered;
 
 ghost use Rattle.std.specs.Prelude.{◌≡◌, length};
@@ -23,8 +25,8 @@ pub struct Entry {
     pub zone: u32,
 }
 
-// Stores the gathered entries at the front of the list, and gives on what comes back. Proved by hand, as every function over a list of structs: the
-// loop stands here, so that `survivors` and `bundle_survivors`, which are lent more, have none.
+// Stores the gathered entries at the front of the list, and gives on what comes back. The loop stands here, so that `survivors` and
+// `bundle_survivors`, which are lent more, have none.
 fn store<'a>(g: Gathered, out: &'a mut [Entry]) -> Tally
     requires { Fits g (length out.old) }
     ensures { (result ≡ g.tally) × (out.new ≡ stored g out.old) }
@@ -41,7 +43,6 @@ fn store<'a>(g: Gathered, out: &'a mut [Entry]) -> Tally
 // Of a fan from the source to the targets, an entry for each path, in the targets' order, at the front of `out`; the entries after those stay.
 // Answers how many are whole. In the cube of 2 dimensions, of the paths 0, 2, 3 and 0, 1, with the zones 7 and 9 and relay 2 stopped, the entries are
 // (3, 2, no, 7) and (1, 1, yes, 9), and the answer is 1. Cuts are as in `survivors::survivors`, and too few zones are 8. Refuses with 1 to 8, or gives the judge's first finding, and then leaves `out` as it was.
-// Proved by hand, so it has no loop and no branch; one lifetime for all that is read keeps that proof short.
 pub fn survivors<'a, 'b>(
     mesh: Mesh,
     source: u64,
@@ -72,7 +73,6 @@ pub fn survivors<'a, 'b>(
 // Of a bundle from the source to the target, an entry for each path, as many as a relay has links, at the front of `out`; the entries after those stay.
 // Answers how many are whole. In the cube of 2 dimensions, of the paths 0, 1 and 0, 2, 3, 1, with the zones 7 and 9 and relay 2 stopped, the entries are
 // (1, 1, yes, 7) and (1, 3, no, 9), and the answer is 1. Refuses with 1, 52, 2, 5, 6, 8, or gives the judge's first finding, and then leaves `out` as it was.
-// Proved by hand, as `survivors` is.
 pub fn bundle_survivors<'a, 'b>(
     mesh: Mesh,
     source: u64,
