@@ -17,7 +17,7 @@ use Rattle.paths.specs.Ways.{Shortest, distance, shortest_one}
 use Rattle.paths.specs.Metric.{shortest_back, shortest_none, shortest_home, shortest_by, fan_least, bundle_least}
 use Rattle.paths.proofs.Routed.{routed-way}
 use Rattle.two_parts.specs.Parts.{known_bounds}
-use Rattle.two_distance.specs.Moved.{distance_is}
+use Rattle.two_distance.proofs.Moved.{distance_is}
 use Rattle.mesh.specs.Kinds.{Kind, kind_of, mesh_of, known}
 use Rattle.mesh.specs.Laws.{known_case, known-near, known-planned, served-fine}
 use Rattle.mesh.specs.Requests.{served_sound}

@@ -22,7 +22,7 @@ use Rattle.cube.specs.Sizes.{known-most}
 use Rattle.cube.specs.Route as cube
 use Rattle.cube.specs.Once as cubes
 use Rattle.two.specs.Next as two
-use Rattle.two.specs.Once as twos
+use Rattle.two.proofs.Once as twos
 use Rattle.meta_parts.specs.Meta as meta
 use Rattle.meta_parts.specs.Sizes.{known-sized}
 use Rattle.meta.specs.Next as metaWalk

@@ -1,9 +1,7 @@
 -- What the crate's contracts cite, and its laws.
 pub mod Next
-pub mod Crossing
 pub mod Ordered
 pub mod Steps
-pub mod Once
 pub mod Turns
 pub mod Says
 pub mod Needs

@@ -1,18 +1,13 @@
 -- Bits brought into the Gray order by four swaps under masks (`ordered`): of the first 32, bit i of what comes out is the bit of x at place i of the
--- order (`ordered-bit`). So the lowest of them is at the crossing's place (`ordered_lowest`). Assumes nothing.
-use Rattle.std.specs.Prelude.{ℕ, ◌+◌, ◌*◌, ◌^◌, ◌≤◌, ◌<◌, ◌≡◌, refl, Bool, true, false, ◌&&◌, not, ◌⊎◌, ◌≢◌, eqb, leb}
+-- order (`ordered-bit`). Assumes nothing.
+use Rattle.std.specs.Prelude.{ℕ, ◌+◌, ◌*◌, ◌^◌, ◌<◌, ◌≡◌, refl, Bool, true, false, ◌&&◌, not, eqb, leb}
 use Rattle.std.proofs.Math.Path.{ap}
-use Rattle.std.proofs.Common.{◌∙◌, inl, inr, ⊎_elim, arith, eqb-true, leb-true}
-use Rattle.bits.specs.Bit.{bit, Lowest}
-use Rattle.bits.specs.Laws.{bit-none, clash, lt-or}
+use Rattle.std.proofs.Common.{◌∙◌, ⊎_elim, arith, eqb-true, leb-true}
+use Rattle.bits.specs.Bit.{bit}
 use Rattle.bits.specs.Gray.{gray}
 use Rattle.bits.specs.Swaps.{swapped, partner, swapped-bit}
 use Rattle.scan.specs.Scan.{seek, any}
 use Rattle.scan.specs.Laws.{both_true, any_false, true-or, true-false}
-use Rattle.two_parts.specs.Two.{blocks}
-use Rattle.two_parts.specs.Parts.{slots-few}
-use Rattle.two.specs.Next.{place, crossing}
-use Rattle.two.specs.Crossing.{place-below, place-before, crossing-bit}
 
 -- of the places below 32, those in which bit 1 is set and bit 0 is not, or 2 and not 1, 3 and not 2, 4 and not 3:
 -- 0x44444444, 0x30303030, 0x0f000f00, 0x00ff0000
@@ -72,20 +67,3 @@ module _ (x i : ℕ) (h : i < 32) where
       ∙ swapped-bit mask_4 4 (swapped mask_8 8 x) (from_2 i) (leb-true _ 1 c)
       ∙ swapped-bit mask_8 8 x (from_4 i) (leb-true _ 1 d)
       ∙ ap (λ (j : ℕ). bit j x) (eqb-true (from_8 i) (gray i) e)
-
-module _ (m x : ℕ) (few : m ≤ 5) (ne : x ≢ 0) (h : x < blocks m) where
-  at_place : bit (place m x) (ordered x) ≡ 1
-  unfolding crossing
-  at_place = ordered-bit x (place m x) (omega (arith, place-below m x ne h, slots-few m few)) ∙ crossing-bit m x ne h
-
-  pub ordered-some : ordered x ≢ 0
-  ordered-some z = clash (ap (bit (place m x)) z ∙ bit-none (place m x)) at_place
-
-  pub ordered_lowest : (w i : ℕ) → Lowest w (ordered x) i → i ≡ place m x
-  ordered_lowest w i low = go (lt-or i (place m x))
-    where
-      go : (i < place m x) ⊎ ((i ≡ place m x) ⊎ (place m x < i)) → i ≡ place m x
-      go (inl l) =
-          absurd (clash (ordered-bit x i (omega (arith, place-below m x ne h, slots-few m few)) ∙ place-before m x ne h i l) low.set)
-      go (inr (inl e)) = e
-      go (inr (inr g)) = absurd (clash (low.below (place m x) g) at_place)

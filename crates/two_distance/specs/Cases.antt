@@ -1,15 +1,11 @@
 -- The specification's case F: the distances of relays 0 to 7 of order 1 from relay 0, from the definition of distance. Pairs of orders 2 and 3, both ways and
--- by way of a third relay (`both_ways`), and the farthest relays (`farthest`), from the tables. Assumes nothing.
+-- by way of a third relay (`BothWays`, which proofs/Cases.antt proves), and the farthest relays (`farthest`), from the tables. Assumes nothing.
 use Rattle.std.specs.Prelude.{ℕ, zero, suc, ◌≡◌, refl, List, [], ◌∷◌, eqb}
-use Rattle.std.proofs.Common.{◌∙◌, arith}
 use Rattle.std.specs.Int.Count.{ones, ones_in}
-use Rattle.bits.specs.Bit.{bit}
 use Rattle.scan.specs.Scan.{pick, seek, any}
 use Rattle.two_parts.specs.Two.{joined, linked, two}
-use Rattle.two_parts.specs.Seen.{gather, shuffled, seen_block, seen_slot, seen}
 use Rattle.paths.specs.Ways.{reaches, distance}
 use Rattle.two_distance.specs.Tables.{table1, table2, table3}
-use Rattle.two_distance.specs.Moved.{distance-entry}
 
 -- the distances of the n relays from i on
 unfoldable pub distances : (m i n : ℕ) → List ℕ
@@ -28,17 +24,6 @@ abbrev pub BothWays : Type 0
 BothWays =
     (distance (two 2) 0 23 ≡ 4) × (distance (two 2) 23 0 ≡ 4) × (distance (two 2) 0 6 ≡ 2) × (distance (two 2) 6 23 ≡ 2)
     × (distance (two 3) 0 2040 ≡ 16) × (distance (two 3) 2040 0 ≡ 16)
-
-pub both_ways : BothWays
-unfolding table2 table3 seen seen_block seen_slot shuffled gather bit
-both_ways = (
-  distance-entry 2 0 23 (omega arith) (omega arith) (omega arith) (omega arith) ∙ refl,
-  distance-entry 2 23 0 (omega arith) (omega arith) (omega arith) (omega arith) ∙ refl,
-  distance-entry 2 0 6 (omega arith) (omega arith) (omega arith) (omega arith) ∙ refl,
-  distance-entry 2 6 23 (omega arith) (omega arith) (omega arith) (omega arith) ∙ refl,
-  distance-entry 3 0 2040 (omega arith) (omega arith) (omega arith) (omega arith) ∙ refl,
-  distance-entry 3 2040 0 (omega arith) (omega arith) (omega arith) (omega arith) ∙ refl,
-)
 
 -- the places of x in a list, counted from i
 unfoldable pub places : (x i : ℕ) → List ℕ → List ℕ

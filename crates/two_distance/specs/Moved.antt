@@ -1,5 +1,5 @@
--- A pair is brought to relay 0 and looked up: the entry of the target as the source sees it is the distance (`distance-entry`), and the distance
--- is that of a shortest path (`distance_is`). The refusals, case by case. Assumes nothing.
+-- A pair is brought to relay 0: a shortest path from there to the target as the source sees it makes one of the pair (`moved_shortest`). That the entry is the
+-- distance stands in proofs/Moved.antt. The refusals, case by case. Assumes nothing.
 use Rattle.std.specs.Prelude.{ℕ, zero, suc, ◌+◌, ◌^◌, ◌≤◌, ◌<◌, ◌≡◌, Bool, false, not, ◌++◌, ltb}
 use Rattle.std.proofs.Math.Path.{sym, ap}
 use Rattle.std.proofs.Common.{ap₂, ◌∙◌, subst, arith, pow_pos, lt-ltb, le-ltb}
@@ -12,9 +12,8 @@ use Rattle.two_parts.specs.Seen.{seen}
 use Rattle.two_parts.specs.Moves.{unseen, seen_below, seen-home, seen-linked, unseen-below, unseen-seen, unseen-linked}
 use Rattle.two_parts.specs.Parts.{bounds_known, high_unknown}
 use Rattle.two.specs.Says.{pair_against}
-use Rattle.paths.specs.Ways.{Way, Shortest, distance, shortest_distance, way-map}
-use Rattle.two_distance.specs.Tables.{entry}
-use Rattle.two_distance.specs.Tested.{top, entry_shortest, entry_top}
+use Rattle.paths.specs.Ways.{Way, Shortest, way-map}
+use Rattle.two_distance.specs.Tested.{top}
 use Rattle.two_distance.specs.Says.{distance_against}
 
 -- ---- from relay 0 to any source, for every order
@@ -34,24 +33,12 @@ module _ (m s t : ℕ) (hs : s < relays m) (ht : t < relays m) where
 
 -- ---- orders 1 to 3
 
-top_below : (m : ℕ) → 1 ≤ m → m ≤ 3 → top m < relays m
+pub top_below : (m : ℕ) → 1 ≤ m → m ≤ 3 → top m < relays m
 top_below zero h g = absurd (omega arith)
 top_below (suc zero) h g = omega arith
 top_below (suc (suc zero)) h g = omega arith
 top_below (suc (suc (suc zero))) h g = omega arith
 top_below (suc (suc (suc (suc m)))) h g = absurd (omega arith)
-
-module _ (m s t : ℕ) (low : 1 ≤ m) (high : m ≤ 3) (hs : s < relays m) (ht : t < relays m) where
-  pub seen_shortest : Shortest (two m) s t (entry m (seen m s t))
-  seen_shortest = moved_shortest m s t hs ht (entry m (seen m s t)) (entry_shortest m low high (seen m s t) (seen_below m s hs t))
-
-  pub distance-entry : distance (two m) s t ≡ entry m (seen m s t)
-  distance-entry =
-      shortest_distance (two m) s t (entry m (seen m s t)) (omega (arith, entry_top m low high (seen m s t) (seen_below m s hs t), top_below m low high)) seen_shortest
-
-  -- exact: a path of that many links exists, and none is shorter
-  pub distance_is : Shortest (two m) s t (distance (two m) s t)
-  distance_is = subst (λ (n : ℕ). Shortest (two m) s t n) (sym distance-entry) seen_shortest
 
 -- ---- refusals
 

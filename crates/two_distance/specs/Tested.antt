@@ -1,6 +1,5 @@
--- The tables keep the rule: one test, computed over each whole table (`passes`), and one law that makes of it the rule (`tested_rule`). So
--- each entry is the length of a shortest path from relay 0 (`entry_shortest`). No entry is above 4, 8 and 16, and one is as high (`largest`).
--- Assumes nothing.
+-- The tables keep the rule: one test, computed over each whole table (`passes`), and one law that makes of it the rule (`tested_rule`). That each entry is the
+-- length of a shortest path stands in proofs/Tested.antt. Assumes nothing.
 use Rattle.std.specs.Prelude.{ℕ, zero, suc, ◌+◌, ◌≤◌, ◌<◌, ◌≡◌, refl, Bool, true, ◌&&◌, List, [], ◌∷◌, ◌≢◌, eqb, leb, length, get_or}
 use Rattle.std.proofs.Common.{sym, ap, ◌∙◌, subst, add-zero, zero-add, add-suc, suc-add, arith, pow_pos, eqb-true, leb-true, ne_eqb}
 use Rattle.bits.specs.Bit.{flip}
@@ -9,9 +8,8 @@ use Rattle.scan.specs.Laws.{both_true, any-true}
 use Rattle.two_parts.specs.Two.{relays, two}
 use Rattle.two_parts.specs.Near.{near}
 use Rattle.two_parts.proofs.NearLaws.{links}
-use Rattle.two_distance.specs.Rule.{Rule, rule_shortest}
-use Rattle.paths.specs.Ways.{Shortest}
-use Rattle.two_distance.specs.Tables.{table1, table2, table3, words3, table_of, entry, look}
+use Rattle.two_distance.specs.Rule.{Rule}
+use Rattle.two_distance.specs.Tables.{table1, table2, table3, words3, table_of, look}
 
 -- ---- a test over a list
 
@@ -110,24 +108,10 @@ top (suc zero) = 4
 top (suc (suc zero)) = 8
 top (suc (suc (suc m))) = 16
 
-passes : (m : ℕ) → 1 ≤ m → m ≤ 3 → (length (table_of m) ≡ relays m) × (every (test m (top m) (look m)) 0 (table_of m) ≡ true)
+pub passes : (m : ℕ) → 1 ≤ m → m ≤ 3 → (length (table_of m) ≡ relays m) × (every (test m (top m) (look m)) 0 (table_of m) ≡ true)
 unfolding table1 table2 table3 words3 look near flip any seek
 passes zero h g = absurd (omega arith)
 passes (suc zero) h g = (refl, refl)
 passes (suc (suc zero)) h g = (refl, refl)
 passes (suc (suc (suc zero))) h g = (refl, refl)
 passes (suc (suc (suc (suc m)))) h g = absurd (omega arith)
-
-module _ (m : ℕ) (low : 1 ≤ m) (high : m ≤ 3) where
-  pub entry_shortest : (r : ℕ) → r < relays m → Shortest (two m) 0 r (entry m r)
-  entry_shortest r h =
-      let (long, passed) = passes m low high in
-      rule_shortest (two m) (entry m) (tested_rule m (top m) (look m) (table_of m) long passed) (links m).both r (pow_pos _) h
-
-  pub entry_top : (r : ℕ) → r < relays m → entry m r ≤ top m
-  entry_top r h = let (long, passed) = passes m low high in tested_top m (top m) (look m) (table_of m) long passed r h
-
--- the largest entry of order 3 is 16
-pub largest : ((r : ℕ) → r < relays 3 → entry 3 r ≤ 16) × (entry 3 2040 ≡ 16)
-unfolding table3
-largest = (entry_top 3 (omega arith) (omega arith), refl)

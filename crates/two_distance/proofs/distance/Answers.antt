@@ -1,5 +1,5 @@
 -- `two_distance::distance` meets its contract. Assumes nothing.
-use Rattle.std.proofs.Common.{ℕ, ◌<◌, ◌∙◌, sym, ap, subst, rules}
+use Rattle.std.proofs.Common.{ℕ, ◌<◌, ◌∙◌, sym, ap, subst}
 use mathlib.Core.Option.{Option}
 use Rattle.answers.specs.Told.{tell}
 use Rattle.answers.specs.Pairs.{told_refused, told-fine}
@@ -11,7 +11,8 @@ use Rattle.two_parts.specs.Needs.{Fine}
 use Rattle.two.specs.Needs.{fine}
 use Rattle.paths.specs.Ways as ways
 use Rattle.two_distance.specs.Tables.{entry}
-use Rattle.two_distance.specs.Moved.{distance-entry, distance-near, distance-far, distance-unknown}
+use Rattle.two_distance.specs.Moved.{distance-near, distance-far, distance-unknown}
+use Rattle.two_distance.proofs.Moved.{distance-entry}
 use Rattle.two_distance.proofs.distance.Goals as goal
 
 pub returns-then-order-gt-MOST-2 : goal.returns-then-order-gt-MOST-2

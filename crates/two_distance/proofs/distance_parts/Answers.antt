@@ -1,5 +1,5 @@
 -- `two_distance::distance_parts` meets its contract. Assumes nothing.
-use Rattle.std.proofs.Common.{◌∙◌, ap₂, rules}
+use Rattle.std.proofs.Common.{◌∙◌, ap₂}
 use Rattle.two_distance.specs.Says.{distance_told}
 use Rattle.two_distance.proofs.distance_parts.Goals as goal
 

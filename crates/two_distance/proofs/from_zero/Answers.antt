@@ -1,6 +1,5 @@
 -- `two_distance::from_zero` meets its contract: the table is that of the order. Assumes nothing.
-use Rattle.std.proofs.Common.{ℕ, ◌<◌, ◌≡◌, ◌∙◌, sym, ap, subst, rules, arith}
-use Rattle.two_parts.specs.Two.{relays}
+use Rattle.std.proofs.Common.{ℕ, ◌≡◌, ◌∙◌, sym, ap, arith}
 use Rattle.two_distance.specs.Tables.{table1, table2, table3, entry}
 use Rattle.two_distance.proofs.from_zero.Goals as goal
 

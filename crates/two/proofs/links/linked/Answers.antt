@@ -1,5 +1,5 @@
 -- `two::links::linked` meets its contract. Assumes nothing.
-use Rattle.std.proofs.Common.{◌∙◌, false, rules}
+use Rattle.std.proofs.Common.{◌∙◌, false}
 use Rattle.answers.specs.Pairs.{told_refused, told-fine}
 use Rattle.two_parts.specs.Two.{linked}
 use Rattle.two_parts.specs.Parts.{known_bounds}

@@ -1,5 +1,5 @@
 -- `two::links::linked_parts` meets its contract. Assumes nothing.
-use Rattle.std.proofs.Common.{◌∙◌, ap₂, rules}
+use Rattle.std.proofs.Common.{◌∙◌, ap₂}
 use Rattle.two.specs.Says.{linked_told}
 use Rattle.two.proofs.links.linked_parts.Goals as goal
 

@@ -1,6 +1,4 @@
 -- `two::parts::checked` meets its contract: each fault is told where none before it stands. Assumes nothing.
-use Rattle.std.proofs.Common.{rules}
-use borrow.Author.Tests.{not-true, not-false}
 use Rattle.answers.specs.Pairs.{pair-unknown, pair-source, pair-target, pair-fine}
 use Rattle.two_parts.specs.Two.{relays}
 use Rattle.two_parts.specs.Parts.{few}

@@ -1,6 +1,5 @@
 -- `two::parts::named` meets its contract: each way out by its tests. Assumes nothing.
-use Rattle.std.proofs.Common.{sym, ◌∙◌, rules}
-use borrow.Author.Tests.{not-true, not-false}
+use Rattle.std.proofs.Common.{sym, ◌∙◌}
 use Rattle.two_parts.specs.Parts.{few, named-unknown, named-relay, named-block-out, named-slot-out}
 use Rattle.two.proofs.parts.named.Goals as goal
 

@@ -1,5 +1,5 @@
 -- `two::parts::number` meets its contract. Assumes nothing.
-use Rattle.std.proofs.Common.{refl, ap, ◌∙◌, rules}
+use Rattle.std.proofs.Common.{refl, ap, ◌∙◌}
 use Rattle.answers.specs.Pairs.{told_refused, told-fine}
 use Rattle.two.specs.Says.{number_told}
 use Rattle.two.proofs.parts.number.Goals as goal

@@ -1,5 +1,5 @@
 -- `two::parts::split` meets its contract. Assumes nothing.
-use Rattle.std.proofs.Common.{ℕ, ap₂, rules}
+use Rattle.std.proofs.Common.{ℕ, ap₂}
 use Rattle.answers.specs.Pairs.{told_refused, told-fine}
 use Rattle.two_parts.specs.Two.{block_of, slot_of}
 use Rattle.two_parts.specs.Parts.{known_bounds}

@@ -1,12 +1,12 @@
-use Rattle.std.proofs.Common.{ℕ, ◌-◌, ◌≤◌, ◌<◌, ◌≡◌, sym, ap, ◌∙◌, subst, ◌≢◌, arith}
-use Rattle.paths.specs.Walk.{node}
+use Rattle.std.proofs.Common.{ℕ, ◌<◌, sym, ap, ◌∙◌, subst, ◌≢◌, arith}
 use Rattle.paths.specs.Walks.{node-start, node-more}
 use Rattle.two_parts.specs.Two.{relays}
 use Rattle.two.specs.Next.{next, hops}
 use Rattle.two_parts.specs.Parts.{known_bounds, longest-few}
 use Rattle.two_parts.specs.Needs.{Fine}
 use Rattle.paths.specs.Ends.{not_yet, now_there}
-use Rattle.two.specs.Steps.{node-below, hops_arrive, hops_bound, most-longest}
+use Rattle.two.specs.Steps.{most-longest}
+use Rattle.two.proofs.Rank.{node-below, hops_arrive, hops_bound}
 use Rattle.two.proofs.routes.hops.Invariants.{Inv}
 use Rattle.two.proofs.routes.hops.Goals as goal
 

@@ -1,13 +1,7 @@
 -- `two::routes::hops` meets its contract. The invariant: after k hops, of at most as many as are needed, the walk is at `at`. Assumes nothing.
-use Rattle.std.proofs.Common.{ℕ, ◌-◌, ◌≤◌, ◌<◌, ◌≡◌, sym, ap, ◌∙◌, subst, ◌≢◌, arith}
+use Rattle.std.proofs.Common.{ℕ, ◌-◌, ◌≤◌, ◌≡◌}
 use Rattle.paths.specs.Walk.{node}
-use Rattle.paths.specs.Walks.{node-start, node-more}
-use Rattle.two_parts.specs.Two.{relays}
 use Rattle.two.specs.Next.{next, hops}
-use Rattle.two_parts.specs.Parts.{known_bounds, longest-few}
-use Rattle.two_parts.specs.Needs.{Fine}
-use Rattle.paths.specs.Ends.{not_yet, now_there}
-use Rattle.two.specs.Steps.{node-below, hops_arrive, hops_bound, most-longest}
 use Rattle.two.proofs.routes.hops.Given as goal
 
 pub record Inv (m s t at k : ℕ) : Type 0 where

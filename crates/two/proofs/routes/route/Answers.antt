@@ -1,5 +1,5 @@
 -- `two::routes::route` meets its contract. Assumes nothing.
-use Rattle.std.proofs.Common.{ℕ, ◌+◌, sym, ap, ◌∙◌, Bool, List, ◌++◌, rules, leb-false, leb, length, drop}
+use Rattle.std.proofs.Common.{ℕ, ◌+◌, sym, ap, ◌∙◌, Bool, List, ◌++◌, leb-false, leb, length, drop}
 use Rattle.answers.specs.Order.{Fault, pair_faults}
 use Rattle.answers.specs.Pairs.{lent_refused, lent-short, lent-fine}
 use Rattle.answers.specs.Told.{told}

@@ -1,5 +1,5 @@
 -- `two::routes::route_parts` meets its contract. Assumes nothing.
-use Rattle.std.proofs.Common.{ℕ, ◌∙◌, ap₂, rules, length}
+use Rattle.std.proofs.Common.{ℕ, ◌∙◌, ap₂, length}
 use Rattle.two.specs.Says.{route_told, route_leaves}
 use Rattle.two.proofs.routes.route_parts.Goals as goal
 

@@ -3,7 +3,8 @@ use Rattle.std.proofs.Common.{◌≤◌, sym, ap, arith, leb, pow_pos}
 use borrow.Author.Tests.{lt-leb}
 use Rattle.two_parts.specs.Parts.{known_bounds, slots-few}
 use Rattle.two.specs.Next.{hops}
-use Rattle.two.specs.Steps.{pow-next, hops_bound}
+use Rattle.two.specs.Steps.{pow-next}
+use Rattle.two.proofs.Rank.{hops_bound}
 use Rattle.two.proofs.routes.short.Goals as goal
 
 pub slots_in-requires : goal.slots_in-requires

@@ -1,9 +1,9 @@
-use Rattle.std.proofs.Common.{ℕ, ◌-◌, ◌<◌, sym, subst, arith, rules, length-set}
+use Rattle.std.proofs.Common.{ℕ, ◌<◌, sym, subst, arith}
 use Rattle.paths.specs.Walk.{Arrives}
-use Rattle.paths.specs.Walked.{Walked, walk_starts, walk-short, walk_goes_on, walk_ends}
+use Rattle.paths.specs.Walked.{walk_starts, walk-short, walk_goes_on, walk_ends}
 use Rattle.two_parts.specs.Two.{relays}
 use Rattle.two.specs.Next.{next, hops, route}
-use Rattle.two.specs.Steps.{node-below, hops_arrive}
+use Rattle.two.proofs.Rank.{node-below, hops_arrive}
 use Rattle.two.proofs.routes.walk.Goals as goal
 
 pub loop-at-init : goal.loop-at-init

@@ -1,11 +1,8 @@
 -- `two::routes::walk` meets its contract. The invariant: after k hops the walk is at `at`, and the relays before it are written.
 -- The measure is the hops that are left. Assumes nothing.
-use Rattle.std.proofs.Common.{ℕ, ◌-◌, ◌<◌, sym, subst, arith, rules, length-set}
-use Rattle.paths.specs.Walk.{Arrives}
-use Rattle.paths.specs.Walked.{Walked, walk_starts, walk-short, walk_goes_on, walk_ends}
-use Rattle.two_parts.specs.Two.{relays}
-use Rattle.two.specs.Next.{next, hops, route}
-use Rattle.two.specs.Steps.{node-below, hops_arrive}
+use Rattle.std.proofs.Common.{◌-◌}
+use Rattle.paths.specs.Walked.{Walked}
+use Rattle.two.specs.Next.{next, hops}
 use Rattle.two.proofs.routes.walk.Given as goal
 
 abbrev pub invariant-loop-at : goal.invariant-loop-at

@@ -1,9 +1,10 @@
 -- `two::steps::crossing` meets its contract: the lowest bit of those in order stands at the place of the crossing. Assumes nothing.
-use Rattle.std.proofs.Common.{ℕ, sym, ap, subst, ◌∙◌, arith, rules}
+use Rattle.std.proofs.Common.{ℕ, sym, ap, subst, ◌∙◌, arith}
 use Rattle.bits.specs.Bit.{Lowest}
 use Rattle.bits.specs.Gray.{gray}
 use Rattle.two.specs.Next.{crossing}
-use Rattle.two.specs.Ordered.{ordered, ordered-some, ordered_lowest}
+use Rattle.two.specs.Ordered.{ordered}
+use Rattle.two.proofs.Ordered.{ordered-some, ordered_lowest}
 use Rattle.two.proofs.steps.crossing.Goals as goal
 
 pub overflow_cast-first : goal.overflow_cast-first

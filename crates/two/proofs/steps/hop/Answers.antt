@@ -1,11 +1,12 @@
 -- `two::steps::hop` meets its contract. Assumes nothing.
-use Rattle.std.proofs.Common.{ℕ, ◌/◌, ◌%◌, ◌^◌, ◌<◌, ◌≡◌, ◌∙◌, sym, ap, ap₂, subst, arith, bit_xor, pow_pos}
+use Rattle.std.proofs.Common.{ℕ, ◌/◌, ◌%◌, ◌^◌, ◌<◌, ◌≡◌, ◌∙◌, sym, ap, ap₂, subst, bit_xor}
 use lib.Bits.{xor_shr, xor_lt}
 use Rattle.two_parts.specs.Two.{slots, blocks, block_of, slot_of}
 use Rattle.two_parts.specs.Parts.{known_bounds, block-below, slot-below}
 use Rattle.two.specs.Next.{heading}
-use Rattle.two.specs.Steps.{heading-below}
-use Rattle.two.specs.Turns.{aim, change, aim-heading, change-next}
+use Rattle.two.proofs.Rank.{heading-below}
+use Rattle.two.specs.Turns.{aim, change, aim-heading}
+use Rattle.two.proofs.Turns.{change-next}
 use Rattle.two.proofs.steps.hop.Goals as goal
 
 -- a relay's slot

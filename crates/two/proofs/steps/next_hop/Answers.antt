@@ -1,5 +1,4 @@
 -- `two::steps::next_hop` meets its contract. Assumes nothing.
-use Rattle.std.proofs.Common.{rules}
 use Rattle.answers.specs.Pairs.{told_refused, told-fine}
 use Rattle.two.specs.Next.{next}
 use Rattle.two_parts.specs.Needs.{Fine}

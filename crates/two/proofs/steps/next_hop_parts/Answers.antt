@@ -1,5 +1,5 @@
 -- `two::steps::next_hop_parts` meets its contract. Assumes nothing.
-use Rattle.std.proofs.Common.{◌∙◌, ap₂, rules}
+use Rattle.std.proofs.Common.{◌∙◌, ap₂}
 use Rattle.two.specs.Says.{next_told}
 use Rattle.two.proofs.steps.next_hop_parts.Goals as goal
 

@@ -1,5 +1,5 @@
 -- `two::steps::ordered` meets its contract. Assumes nothing.
-use Rattle.std.proofs.Common.{ap, ◌∙◌, rules}
+use Rattle.std.proofs.Common.{ap, ◌∙◌}
 use Rattle.bits.specs.Swaps.{swapped}
 use Rattle.two.specs.Ordered.{mask_1, mask_2, mask_4, ordered}
 use Rattle.two.proofs.steps.ordered.Goals as goal

@@ -1,5 +1,4 @@
 -- `two::views::seen` meets its contract. Assumes nothing.
-use Rattle.std.proofs.Common.{◌∙◌, false, rules}
 use Rattle.answers.specs.Pairs.{told_refused, told-fine}
 use Rattle.two_parts.specs.Seen.{seen}
 use Rattle.two_parts.specs.Needs.{Fine}

@@ -1,5 +1,5 @@
 -- `two::views::seen_parts` meets its contract. Assumes nothing.
-use Rattle.std.proofs.Common.{◌∙◌, ap₂, rules}
+use Rattle.std.proofs.Common.{◌∙◌, ap₂}
 use Rattle.two.specs.Says.{seen_told}
 use Rattle.two.proofs.views.seen_parts.Goals as goal
 

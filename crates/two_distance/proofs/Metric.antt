@@ -11,8 +11,8 @@ use Rattle.paths.proofs.Routed.{routed-way}
 use Rattle.two_parts.specs.Two.{relays, two}
 use Rattle.two_parts.proofs.NearLaws.{links}
 use Rattle.two.specs.Next.{next, hops}
-use Rattle.two.specs.Once.{plain_routed}
-use Rattle.two_distance.specs.Moved.{distance_is}
+use Rattle.two.proofs.Once.{plain_routed}
+use Rattle.two_distance.proofs.Moved.{distance_is}
 
 module _ (m : ℕ) (low : 1 ≤ m) (high : m ≤ 3) where
   module _ (s t : ℕ) (hs : s < relays m) (ht : t < relays m) where

@@ -5,7 +5,7 @@ use Rattle.paths.specs.Lists.{Fresh}
 use Rattle.paths.specs.Routed.{Routed, route-fresh}
 use Rattle.two_parts.specs.Two.{relays, two}
 use Rattle.two.specs.Next.{next, hops, route}
-use Rattle.two.specs.Steps as steps
+use Rattle.two.proofs.Rank as steps
 
 module _ (m s t : ℕ) (hs : s < relays m) (ht : t < relays m) where
   pub plain_routed : Routed (two m) (next m) s t (hops m s t)
