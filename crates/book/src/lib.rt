@@ -1,5 +1,6 @@
 // A book of sheets: its head, and what its routines answer. docs/BOOKS.md has it byte by byte.
 #![tactic(auto)]
+
 ghost use Rattle.std.specs.Prelude.{◌≡◌};
 ghost use Rattle.book.specs.Told as told;
 

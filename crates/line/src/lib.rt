@@ -1,5 +1,6 @@
 // A request line and its answer as text. `line_read` reads the one, and `line_write` writes the other.
 #![tactic(auto)]
+
 use answers::Refusal;
 use mesh::Mesh;
 
