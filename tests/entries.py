@@ -3,7 +3,7 @@
 
     python3 tests/entries.py
 
-What lends a list of structs has a proof by hand (docs/DECISIONS.md), so the program, below, is run without one: on the interpreter and compiled.
+The program, below, is run without a proof: on the interpreter and compiled.
 Run it after `rt lib` in crates/entries and crates/script: what is proved is not proved again.
 """
 import os
