@@ -1,7 +1,7 @@
 #!/usr/bin/env python3
 """Code that takes a block for a slot, or a slot for a block, does not compile.
 
-    python3 tests/types.py        each piece of code below, as a crate of its own over the crate two, must be refused for its types
+    python3 tests/slots.py        each piece of code below, as a crate of its own over the crate two, must be refused for its types
 
 Run it after `rt lib` in crates/two: what is proved is not proved again.
 """
