@@ -9,6 +9,9 @@ ghost use Rattle.line_write.specs.Rooms.{Roomy, Front};
 
 use answers::{Answer, Refusal};
 
+// The bytes that are enough for every refusal.
+const REFUSAL_ROOM: usize = 50;
+
 // Whether one of the first k counts is too large for a path of w places.
 fn any_overlong(k: usize, w: usize, counts: &[u64]) -> bool
     requires { k ≤ length counts.now }
@@ -91,7 +94,7 @@ pub fn write_refusal(why: Refusal, out: &mut [u8]) -> Answer
     ensures told { answer_told result ≡ specs.write_told (ltb (length out.old) (specs.refused_room)) (specs.refused_text why) }
     ensures left { out.new ≡ specs.write_leaves (ltb (length out.old) (specs.refused_room)) (specs.refused_text why) out.old }
 {
-    if out.len() < 50 {
+    if out.len() < REFUSAL_ROOM {
         return Answer::Refused(Refusal::NoRoom);
     }
     let number = why.number();
