@@ -9,7 +9,7 @@ def listed():
     """Each crate's direct dependencies, as crates.txt has them."""
     with open(os.path.join(ROOT, "crates.txt"), encoding="utf-8") as lines:
         pairs = [x.split("#")[0].strip().split(":") for x in lines]
-    return {pair[0].strip(): pair[1].split() for pair in pairs if len(pair) == 2}
+    return {pair[0].split()[0]: pair[1].split() for pair in pairs if len(pair) == 2}
 
 
 def reached(names):

@@ -8,21 +8,14 @@ use book::Book;
 use book_shapes::{GustBooked, GustFound};
 
 // `book_calls::add`
-#[unsafe(no_mangle)]
-pub extern "C" fn gust_book_add(
-    book: Book,
-    bytes: &mut [u8],
-    index: &mut [u64],
-    sheet: &[u8],
-) -> GustBooked
+pub fn gust_book_add(book: Book, bytes: &mut [u8], index: &mut [u64], sheet: &[u8]) -> GustBooked
     ensures { (result ≡ specs.added_in (add_says book bytes.old index.old sheet.now) book) × (bytes.new ≡ add_bytes book bytes.old index.old sheet.now) × (index.new ≡ add_index book bytes.old index.old sheet.now) }
 {
     book_shapes::of_added(book_calls::add(book, bytes, index, sheet), book)
 }
 
 // `book_calls::find`
-#[unsafe(no_mangle)]
-pub extern "C" fn gust_book_find(
+pub fn gust_book_find(
     book: Book,
     bytes: &[u8],
     index: &[u64],
@@ -36,8 +29,7 @@ pub extern "C" fn gust_book_find(
 }
 
 // `book_calls::remove`
-#[unsafe(no_mangle)]
-pub extern "C" fn gust_book_remove(
+pub fn gust_book_remove(
     book: Book,
     bytes: &mut [u8],
     index: &mut [u64],
@@ -54,8 +46,7 @@ pub extern "C" fn gust_book_remove(
 }
 
 // `book_open::open`: the head is that of an empty book where it is refused.
-#[unsafe(no_mangle)]
-pub extern "C" fn gust_book_open(bytes: &[u8], index: &mut [u64]) -> GustBooked
+pub fn gust_book_open(bytes: &[u8], index: &mut [u64]) -> GustBooked
     ensures { (result ≡ specs.opened_in (open_says bytes.now index.old) (book_of 0 0)) × (index.new ≡ open_index bytes.now index.old) }
 {
     book_shapes::of_opened(
@@ -68,8 +59,7 @@ pub extern "C" fn gust_book_open(bytes: &[u8], index: &mut [u64]) -> GustBooked
 }
 
 // `book_close::close`
-#[unsafe(no_mangle)]
-pub extern "C" fn gust_book_close(book: Book, bytes: &mut [u8], index: &mut [u64]) -> Book
+pub fn gust_book_close(book: Book, bytes: &mut [u8], index: &mut [u64]) -> Book
     ensures { (result ≡ close_book book bytes.old index.old) × (bytes.new ≡ close_bytes book bytes.old index.old) × (index.new ≡ close_index book bytes.old index.old) }
 {
     book_close::close(book, bytes, index)

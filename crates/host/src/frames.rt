@@ -7,8 +7,7 @@ use arrivals::Record;
 use shapes::GustArrival;
 
 // `arrivals::arrive`: a record whose bytes are all 0 is fresh.
-#[unsafe(no_mangle)]
-pub extern "C" fn gust_arrive(was: Record, number: u16) -> GustArrival
+pub fn gust_arrive(was: Record, number: u16) -> GustArrival
     ensures { result ≡ specs.arrival_in (arrival was number) }
 {
     shapes::of_arrival(arrivals::arrive(was, number))

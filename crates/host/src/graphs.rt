@@ -8,8 +8,7 @@ use mesh::Mesh;
 use shapes::{GustAnswer, GustVerdict};
 
 // `dimacs_write::write`: the value is how many bytes were written.
-#[unsafe(no_mangle)]
-pub extern "C" fn gust_write_graph(kind: u64, size: u64, out: &mut [u8]) -> GustAnswer
+pub fn gust_write_graph(kind: u64, size: u64, out: &mut [u8]) -> GustAnswer
     ensures value { result ≡ answer_in (write_told kind size out.old) }
     ensures out_after { out.new ≡ write_leaves kind size out.old }
 {
@@ -23,8 +22,7 @@ pub extern "C" fn gust_write_graph(kind: u64, size: u64, out: &mut [u8]) -> Gust
 }
 
 // `dimacs_read::read`: 0 for yes; the place is the line.
-#[unsafe(no_mangle)]
-pub extern "C" fn gust_read_graph(kind: u64, size: u64, text: &[u8]) -> GustVerdict
+pub fn gust_read_graph(kind: u64, size: u64, text: &[u8]) -> GustVerdict
     ensures { result ≡ graph_in (read_of kind size text.now) }
 {
     let verdict = dimacs_read::read(

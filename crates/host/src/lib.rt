@@ -1,4 +1,4 @@
-// The library for programs in C and C++: every routine as an exported function over numbers and slices. include/gustparsley.h declares them.
+// Every routine over numbers and slices, as programs in C and C++ call it: `host_c` exports each function. include/gustparsley.h declares them.
 #![tactic(auto)]
 
 mod books;

@@ -14,8 +14,7 @@ use mesh::Mesh;
 use shapes::{GustAnswer, GustFacts, GustReading, GustVerdict};
 
 // The facts of a size: of kind 2 and size 3 there are 2,048 relays with 4 links each, the longest path has 42 hops and takes 43 places. Refuses with 1.
-#[unsafe(no_mangle)]
-pub extern "C" fn gust_facts(kind: u64, size: u64) -> GustFacts
+pub fn gust_facts(kind: u64, size: u64) -> GustFacts
     ensures { result ≡ specs.facts_in (kind_of kind) size }
 {
     shapes::of_facts(Mesh {
@@ -25,8 +24,7 @@ pub extern "C" fn gust_facts(kind: u64, size: u64) -> GustFacts
 }
 
 // `mesh::linked`: the value is 1 for yes.
-#[unsafe(no_mangle)]
-pub extern "C" fn gust_linked(kind: u64, size: u64, source: u64, target: u64) -> GustAnswer
+pub fn gust_linked(kind: u64, size: u64, source: u64, target: u64) -> GustAnswer
     ensures { result ≡ specs.yes_no_in (linked_told (kind_of kind) size source target) }
 {
     shapes::of_yes_no(mesh::linked(
@@ -40,8 +38,7 @@ pub extern "C" fn gust_linked(kind: u64, size: u64, source: u64, target: u64) ->
 }
 
 // `mesh::distance`: the value is the distance.
-#[unsafe(no_mangle)]
-pub extern "C" fn gust_distance(kind: u64, size: u64, source: u64, target: u64) -> GustAnswer
+pub fn gust_distance(kind: u64, size: u64, source: u64, target: u64) -> GustAnswer
     ensures { result ≡ specs.answer_in (distance_told (kind_of kind) size source target) }
 {
     shapes::of_answer(mesh::distance(
@@ -55,14 +52,7 @@ pub extern "C" fn gust_distance(kind: u64, size: u64, source: u64, target: u64) 
 }
 
 // `mesh::route`: the value is the hops.
-#[unsafe(no_mangle)]
-pub extern "C" fn gust_route(
-    kind: u64,
-    size: u64,
-    source: u64,
-    target: u64,
-    out: &mut [u64],
-) -> GustAnswer
+pub fn gust_route(kind: u64, size: u64, source: u64, target: u64, out: &mut [u64]) -> GustAnswer
     ensures value { result ≡ specs.answer_in (route_told (kind_of kind) size source target out.old) }
     ensures out_after { out.new ≡ route_leaves (kind_of kind) size source target out.old }
 {
@@ -78,8 +68,7 @@ pub extern "C" fn gust_route(
 }
 
 // `planner::plan`: the value is how many paths.
-#[unsafe(no_mangle)]
-pub extern "C" fn gust_fan(
+pub fn gust_fan(
     kind: u64,
     size: u64,
     source: u64,
@@ -103,8 +92,7 @@ pub extern "C" fn gust_fan(
 }
 
 // `bundle::plan`: the value is how many paths.
-#[unsafe(no_mangle)]
-pub extern "C" fn gust_bundle(
+pub fn gust_bundle(
     kind: u64,
     size: u64,
     source: u64,
@@ -123,8 +111,7 @@ pub extern "C" fn gust_bundle(
 }
 
 // `judge::judge`.
-#[unsafe(no_mangle)]
-pub extern "C" fn gust_judge(
+pub fn gust_judge(
     kind: u64,
     size: u64,
     source: u64,
@@ -147,8 +134,7 @@ pub extern "C" fn gust_judge(
 }
 
 // `judge::judge_bundle`.
-#[unsafe(no_mangle)]
-pub extern "C" fn gust_judge_bundle(
+pub fn gust_judge_bundle(
     kind: u64,
     size: u64,
     source: u64,
@@ -171,8 +157,7 @@ pub extern "C" fn gust_judge_bundle(
 }
 
 // `survivors::survivors`: the value is how many paths are whole.
-#[unsafe(no_mangle)]
-pub extern "C" fn gust_survivors(
+pub fn gust_survivors(
     kind: u64,
     size: u64,
     source: u64,
@@ -209,8 +194,7 @@ pub extern "C" fn gust_survivors(
 }
 
 // `survivors::bundle_survivors`: the value is how many paths are whole.
-#[unsafe(no_mangle)]
-pub extern "C" fn gust_bundle_survivors(
+pub fn gust_bundle_survivors(
     kind: u64,
     size: u64,
     source: u64,
@@ -247,8 +231,7 @@ pub extern "C" fn gust_bundle_survivors(
 }
 
 // `sheet_write::write`: the value is how many bytes the sheet takes.
-#[unsafe(no_mangle)]
-pub extern "C" fn gust_write_sheet(
+pub fn gust_write_sheet(
     kind: u64,
     size: u64,
     source: u64,
@@ -273,8 +256,7 @@ pub extern "C" fn gust_write_sheet(
 }
 
 // `sheet_read::read`.
-#[unsafe(no_mangle)]
-pub extern "C" fn gust_read_sheet(
+pub fn gust_read_sheet(
     bytes: &[u8],
     places: &mut [u64],
     counts: &mut [u64],

@@ -9,8 +9,7 @@ use mesh::Mesh;
 use shapes::GustAnswer;
 
 // `around::way_round`: the value is the hops.
-#[unsafe(no_mangle)]
-pub extern "C" fn gust_way_round(
+pub fn gust_way_round(
     kind: u64,
     size: u64,
     source: u64,

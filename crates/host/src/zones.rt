@@ -6,8 +6,7 @@ use mesh::Mesh;
 use shapes::{GustAnswer, GustZonedReading};
 
 // `sheet_write::write_zoned`: the value is how many bytes the sheet takes.
-#[unsafe(no_mangle)]
-pub extern "C" fn gust_write_zoned_sheet(
+pub fn gust_write_zoned_sheet(
     version: u64,
     kind: u64,
     size: u64,
@@ -36,8 +35,7 @@ pub extern "C" fn gust_write_zoned_sheet(
 }
 
 // `sheet_read::read_zoned`.
-#[unsafe(no_mangle)]
-pub extern "C" fn gust_read_zoned_sheet(
+pub fn gust_read_zoned_sheet(
     bytes: &[u8],
     places: &mut [u64],
     counts: &mut [u64],
@@ -50,16 +48,14 @@ pub extern "C" fn gust_read_zoned_sheet(
 }
 
 // `sheet_move::to_two`: the value is how many bytes the sheet of version 2 takes.
-#[unsafe(no_mangle)]
-pub extern "C" fn gust_sheet_to_2(bytes: &[u8], out: &mut [u8]) -> GustAnswer
+pub fn gust_sheet_to_2(bytes: &[u8], out: &mut [u8]) -> GustAnswer
     ensures { MovedIn VERSION ZONED bytes.now out.old result out.new }
 {
     shapes::of_written(sheet_move::to_two(bytes, out))
 }
 
 // `sheet_move::to_one`: the value is how many bytes the sheet of version 1 takes.
-#[unsafe(no_mangle)]
-pub extern "C" fn gust_sheet_to_1(bytes: &[u8], out: &mut [u8]) -> GustAnswer
+pub fn gust_sheet_to_1(bytes: &[u8], out: &mut [u8]) -> GustAnswer
     ensures { MovedIn ZONED VERSION bytes.now out.old result out.new }
 {
     shapes::of_written(sheet_move::to_one(bytes, out))

@@ -1,4 +1,4 @@
-// The cube's planners over plain numbers, exported: what the tests in C++ call. Each call returns the number of the refusal, or 0.
+// The cube's planners over plain numbers: what the tests in C++ call, exported by `plan_calls_c`. Each call returns the number of the refusal, or 0.
 #![tactic(auto)]
 
 ghost use Rattle.cube.specs.Cube.{cube};
@@ -8,8 +8,7 @@ ghost use Rattle.plan_calls.specs.Called.{Called, CalledThrough};
 use cube::Size;
 
 // `cube_plan::plan` in the cube of n dimensions: the cube's planner alone, for its time and its stack.
-#[unsafe(no_mangle)]
-pub extern "C" fn gustparsley_cube_plan(
+pub fn gustparsley_cube_plan(
     n: u64,
     source: u64,
     targets: &[u64],
@@ -23,8 +22,7 @@ pub extern "C" fn gustparsley_cube_plan(
 }
 
 // `cube_plan::plan_through` in the cube of n dimensions.
-#[unsafe(no_mangle)]
-pub extern "C" fn gustparsley_cube_plan_through(
+pub fn gustparsley_cube_plan_through(
     n: u64,
     source: u64,
     doors: u64,
