@@ -1,8 +1,8 @@
 // An input read into a lent buffer: a line, as soon as its end has come, or all of it. Inner: callers meet each `requires`.
 #![tactic(auto)]
 
-ghost use Rattle.std.specs.Prelude.{◌≡◌, ◌+◌, ◌<◌, ◌≤◌, true, length, take, drop, IfOk};
-ghost use Rattle.std.specs.Io.KnownBytes.{Consumes, IsAtEnd};
+ghost use Rattle.std.specs.Prelude.{ℕ, ◌≡◌, ◌+◌, ◌<◌, ◌≤◌, true, false, length, take, drop, IfOk, OnErr};
+ghost use Rattle.std.specs.Io.KnownBytes.{Consumes, Keeps, IsAtEnd};
 ghost use Rattle.scan.specs.Scan.{any};
 ghost use Rattle.line.specs.Text.{most_bytes};
 ghost use Rattle.input.specs.Says.{is_end, Came, CameAll};
@@ -25,6 +25,7 @@ fn read_some<R: Read>(from: &mut R, buf: &mut [u8], n: usize) -> io::Result<usiz
     ensures end { IfOk result (λ got. got ≡ 0 → IsAtEnd (R.remaining from.new)) }
     ensures before { take n buf.new ≡ take n buf.old }
     ensures kept { length buf.new ≡ length buf.old }
+    ensures err { OnErr result (Keeps (R.remaining from.old) (R.remaining from.new)) }
 {
     from.read(&mut buf[n..])
 }
@@ -50,6 +51,7 @@ pub fn read_line<R: Read>(from: &mut R, buf: &mut [u8]) -> io::Result<Input>
     ensures bytes { IfOk result (λ i. Consumes (R.remaining from.old) (R.remaining from.new) (take i.bytes buf.new)) }
     ensures end { IfOk result (λ i. i.ended ≡ true → IsAtEnd (R.remaining from.new)) }
     ensures kept { length buf.new ≡ length buf.old }
+    ensures err { OnErr result ((k : ℕ) × (k < length buf.new) × (any (is_end buf.new) 0 k ≡ false) × Consumes (R.remaining from.old) (R.remaining from.new) (take k buf.new)) }
 {
     let mut n: usize = 0;
     while n < buf.len() {
@@ -80,6 +82,7 @@ pub fn read_all<R: Read>(from: &mut R, buf: &mut [u8]) -> io::Result<Input>
     ensures bytes { IfOk result (λ i. Consumes (R.remaining from.old) (R.remaining from.new) (take i.bytes buf.new)) }
     ensures end { IfOk result (λ i. i.ended ≡ true → IsAtEnd (R.remaining from.new)) }
     ensures kept { length buf.new ≡ length buf.old }
+    ensures err { OnErr result ((k : ℕ) × (k < length buf.new) × Consumes (R.remaining from.old) (R.remaining from.new) (take k buf.new)) }
 {
     let mut n: usize = 0;
     while n < buf.len() {

@@ -1,7 +1,7 @@
 // What the programs of worked cases share: the numbers of standard input, runs of them, and numbers and answers written.
 #![tactic(auto)]
 
-ghost use Rattle.std.specs.Prelude.{◌≤◌, length, IfOk};
+ghost use Rattle.std.specs.Prelude.{◌≡◌, ◌≤◌, length, IfOk, OnErr};
 
 use answers::{Answer, YesNo};
 use std::io;
@@ -143,7 +143,8 @@ pub fn put_yes_no(to: &impl Print, name: &[u8], a: YesNo) -> io::Result<()> {
 
 // Reads until the input ends or the room is full, and counts what came.
 fn read_full<R: Read>(from: &mut R, bytes: &mut [u8]) -> io::Result<usize>
-    ensures { IfOk result (λ n. n ≤ length bytes.new) }
+    ensures within { IfOk result (λ n. n ≤ length bytes.new) }
+    ensures kept { length bytes.new ≡ length bytes.old }
 {
     let mut n: usize = 0;
     while n < bytes.len() {
@@ -158,7 +159,9 @@ fn read_full<R: Read>(from: &mut R, bytes: &mut [u8]) -> io::Result<usize>
 
 // The numbers of an input, as many as there is room for.
 pub fn read_numbers<R: Read>(from: &mut R, bytes: &mut [u8], list: &mut [u64]) -> io::Result<usize>
-    ensures { IfOk result (λ n. n ≤ length list.new) }
+    ensures within { IfOk result (λ n. n ≤ length list.new) }
+    ensures kept { length list.new ≡ length list.old }
+    ensures err { OnErr result (list.new ≡ list.old) }
 {
     let n = read_full(from, bytes)?;
     Ok(numbers(&bytes[..n], list))

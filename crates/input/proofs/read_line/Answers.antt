@@ -1,6 +1,12 @@
-use Rattle.std.proofs.Common.{inl, arith}
-use Rattle.input.proofs.Filled.{filled_more}
-use Rattle.input.specs.Buffers.{end_within}
+use Rattle.std.proofs.Common.{◌≡◌, ◌<◌, ℕ, false, List, length, take, Result, Ok, Err, OnErr, inl, refl, arith}
+use Rattle.std.specs.declared.option.Option.{Option}
+use Rattle.std.specs.Io.KnownBytes.{Consumes}
+use Rattle.scan.specs.Scan.{any}
+use Rattle.std.proofs.KnownBytes.{Consumes-nil}
+use Rattle.scan.specs.Laws.{false-any}
+use Rattle.input.proofs.Filled.{filled_more, filled_kept}
+use Rattle.input.specs.Buffers.{end_within, no_end_within, no_end_kept}
+use Rattle.input.specs.Says.{is_end}
 use Rattle.input.proofs.read_line.Goals as goal
 
 pub returns-then-has_end-clause-came : goal.returns-then-has_end-clause-came
@@ -17,4 +23,20 @@ loop-n-preserved g c = record {
   within = c.in_ok-got.ensures.within;
   kept = omega arith;
   bytes = filled_more _ _ _ _ _ c.loop-n.n _ c.in_ok-got.ensures.before c.loop-n.invariant.bytes c.in_ok-got.ensures.bytes;
+  no_end = no_end_within _ _ c.in_ok-got.ensures.within c.has_end.ensures c.if-has_end.false;
 }
+
+pub loop-n-init : goal.loop-n-init
+loop-n-init g c = record { within = omega arith; kept = refl; bytes = Consumes-nil _; no_end = false-any _ 0 0 (λ j a b. absurd (omega arith)) }
+
+-- so many bytes had come before a read that failed
+came_before : {T E : Type 0} (r : Result T E) (before after : Option (List ℕ)) (buf : List ℕ) (n : ℕ)
+    → n < length buf → any (is_end buf) 0 n ≡ false → Consumes before after (take n buf)
+    → OnErr r ((k : ℕ) × (k < length buf) × (any (is_end buf) 0 k ≡ false) × Consumes before after (take k buf))
+came_before (Ok x) before after buf n room no_end bytes = tt
+came_before (Err e) before after buf n room no_end bytes = (n, room, no_end, bytes)
+
+pub returns-in_err-got-clause-err : goal.returns-in_err-got-clause-err
+returns-in_err-got-clause-err g c =
+    let e = c.in_err-got.ensures in
+    came_before _ _ _ _ c.loop-n.n (omega arith) (no_end_kept c.loop-n.n _ _ e.before c.loop-n.invariant.no_end) (filled_kept _ _ _ _ _ c.loop-n.n e.before c.loop-n.invariant.bytes e.err)
