@@ -171,4 +171,16 @@ mod tests {
         assert!(rt; read_line(&mut slowly(b"ab\n", 2), &mut buf).is_err());
         assert!(rt; read_all(&mut slowly(b"ab\n", 2), &mut buf).is_err());
     }
+
+    #[test]
+    fn a_read_that_fails_leaves_what_had_come(rt: HostRuntime) {
+        let mut from = slowly(b"ab\n", 2);
+        let mut buf = [7u8; line::MOST_BYTES];
+        assert!(rt; read_line(&mut from, &mut buf).is_err());
+        assert!(rt; from.at == 2 && buf[0] == b'a' && buf[1] == b'b' && buf[2] == 7);
+        let mut from = slowly(b"ab\n", 2);
+        let mut all = [7u8; 3];
+        assert!(rt; read_all(&mut from, &mut all).is_err());
+        assert!(rt; from.at == 2 && all[0] == b'a' && all[1] == b'b' && all[2] == 7);
+    }
 }
