@@ -17,7 +17,8 @@ pub struct Input {
     pub ended: bool,
 }
 
-// Reads once into what a buffer has behind its first n bytes, and answers how many bytes came: 0 at the end of the input.
+// Reads once into what a buffer has behind its first n bytes, and answers how many bytes came: 0 at the end of the input. A read that fails takes
+// nothing from the reader.
 fn read_some<R: Read>(from: &mut R, buf: &mut [u8], n: usize) -> io::Result<usize>
     requires { n < length buf.old }
     ensures within { IfOk result (λ got. n + got ≤ length buf.new) }
@@ -44,7 +45,8 @@ fn has_end(text: &[u8]) -> bool
     false
 }
 
-// Reads until a line end has come, the room of a line is full or the input ends. What came is what the reader had.
+// Reads until a line end has come, the room of a line is full or the input ends. What came is what the reader had. A read fails only while there is room
+// and no line end has come: what had come before it is what the reader lost.
 pub fn read_line<R: Read>(from: &mut R, buf: &mut [u8]) -> io::Result<Input>
     requires { length buf.old ≡ most_bytes }
     ensures came { IfOk result (λ i. Came buf.new i.bytes i.ended) }
@@ -76,7 +78,8 @@ pub fn read_line<R: Read>(from: &mut R, buf: &mut [u8]) -> io::Result<Input>
     })
 }
 
-// Reads until the input ends or the room is full. What came is what the reader had.
+// Reads until the input ends or the room is full. What came is what the reader had. A read fails only while there is room: what had come before it is what the
+// reader lost.
 pub fn read_all<R: Read>(from: &mut R, buf: &mut [u8]) -> io::Result<Input>
     ensures came { IfOk result (λ i. CameAll buf.new i.bytes i.ended) }
     ensures bytes { IfOk result (λ i. Consumes (R.remaining from.old) (R.remaining from.new) (take i.bytes buf.new)) }

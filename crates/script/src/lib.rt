@@ -1,7 +1,8 @@
 // What the programs of worked cases share: the numbers of standard input, runs of them, and numbers and answers written.
 #![tactic(auto)]
 
-ghost use Rattle.std.specs.Prelude.{◌≡◌, ◌≤◌, length, IfOk, OnErr};
+ghost use Rattle.std.specs.Prelude.{ℕ, ◌≡◌, ◌<◌, ◌≤◌, length, take, IfOk, OnErr};
+ghost use Rattle.std.specs.Io.KnownBytes.{Consumes, IsAtEnd};
 
 use answers::{Answer, YesNo};
 use std::io;
@@ -141,10 +142,13 @@ pub fn put_yes_no(to: &impl Print, name: &[u8], a: YesNo) -> io::Result<()> {
     put(to, flag(a.yes()))
 }
 
-// Reads until the input ends or the room is full, and counts what came.
+// Reads until the input ends or the room is full, and counts what came. A read fails only while there is room: what had come before it is what the reader lost.
 fn read_full<R: Read>(from: &mut R, bytes: &mut [u8]) -> io::Result<usize>
     ensures within { IfOk result (λ n. n ≤ length bytes.new) }
     ensures kept { length bytes.new ≡ length bytes.old }
+    ensures bytes { IfOk result (λ n. Consumes (R.remaining from.old) (R.remaining from.new) (take n bytes.new)) }
+    ensures end { IfOk result (λ n. n < length bytes.new → IsAtEnd (R.remaining from.new)) }
+    ensures err { OnErr result ((k : ℕ) × (k < length bytes.new) × Consumes (R.remaining from.old) (R.remaining from.new) (take k bytes.new)) }
 {
     let mut n: usize = 0;
     while n < bytes.len() {
@@ -157,11 +161,12 @@ fn read_full<R: Read>(from: &mut R, bytes: &mut [u8]) -> io::Result<usize>
     Ok(n)
 }
 
-// The numbers of an input, as many as there is room for.
+// The numbers of an input, as many as there is room for. A read that fails leaves the list as it was.
 pub fn read_numbers<R: Read>(from: &mut R, bytes: &mut [u8], list: &mut [u64]) -> io::Result<usize>
     ensures within { IfOk result (λ n. n ≤ length list.new) }
     ensures kept { length list.new ≡ length list.old }
     ensures err { OnErr result (list.new ≡ list.old) }
+    ensures lost { OnErr result ((k : ℕ) × (k < length bytes.new) × Consumes (R.remaining from.old) (R.remaining from.new) (take k bytes.new)) }
 {
     let n = read_full(from, bytes)?;
     Ok(numbers(&bytes[..n], list))
