@@ -37,7 +37,7 @@ pub sought-requires : goal.sought-requires
 sought-requires c =
     let a = c.args in (
       sound a.mesh.kind a.mesh.size a.source a.target a.stopped.now (sym (ap against c.in_default.is) ∙ c.checked-ends.ensures),
-      record { roomy = omega (arith, c.if-room-relays.false, c.relays_in-relays.ensures); long = omega (arith, c.if-out-relays.false, c.relays_in-relays.ensures) },
+      record { roomy = omega (arith, c.if-room-relays.false, c.relays_in-relays.ensures); long = omega (arith, c.relays_in-relays.ensures) },
     )
 
 pub returns : goal.returns
@@ -45,5 +45,5 @@ returns c =
     let a = c.args in
     as_round
     (round-fine a.mesh.kind a.mesh.size a.source a.target a.stopped.now (sym (ap against c.in_default.is) ∙ c.checked-ends.ensures)
-    (long_both (mesh_of a.mesh.kind a.mesh.size) (length a.room.now) (length a.out.now) (omega (arith, c.if-room-relays.false, c.relays_in-relays.ensures)) (omega (arith, c.if-out-relays.false, c.relays_in-relays.ensures))))
+    (long_both (mesh_of a.mesh.kind a.mesh.size) (length a.room.now) (length a.out.now) (omega (arith, c.if-room-relays.false, c.relays_in-relays.ensures)) (omega (arith, c.relays_in-relays.ensures))))
     c.sought.ensures

@@ -13,4 +13,4 @@ bounds-places-to-2 c =
 
 pub returns : goal.returns
 returns c =
-    row-closed _ _ _ _ _ _ _ _ (closable_kept c.shift.auto.places c.requires) c.shift.ensures c.if-end-target.false
+    row-closed _ _ _ _ _ _ _ _ (closable_kept c.shift.auto.places c.requires) c.shift.ensures (omega arith)

@@ -27,7 +27,7 @@ pub returns-then-stands : goal.returns-then-stands
 returns-then-stands c = let a = c.args in put-there a.book a.bytes.now a.index.now a.sheet.now c.requires.0 (code_stands a.book a.index.now a.sheet.now a.key c.requires.1 c.count-n.ensures c.place-i.ensures c.there-stands.ensures c.if-stands.true)
 
 pub returns-then-filled : goal.returns-then-filled
-returns-then-filled c = let a = c.args in put_full a.book a.bytes.now a.index.now a.sheet.now c.requires.0 (code_stands a.book a.index.now a.sheet.now a.key c.requires.1 c.count-n.ensures c.place-i.ensures c.there-stands.ensures c.if-stands.false) (sym c.full-filled.ensures ∙ c.if-filled.true)
+returns-then-filled c = let a = c.args in put_full a.book a.bytes.now a.index.now a.sheet.now c.requires.0 (code_stands a.book a.index.now a.sheet.now a.key c.requires.1 c.count-n.ensures c.place-i.ensures c.there-stands.ensures (cc)) (sym c.full-filled.ensures ∙ c.if-filled.true)
 
 pub returns-then-lacking : goal.returns-then-lacking
 returns-then-lacking c = let a = c.args in put-short a.book a.bytes.now a.index.now a.sheet.now c.requires.0 (code_stands a.book a.index.now a.sheet.now a.key c.requires.1 c.count-n.ensures c.place-i.ensures c.there-stands.ensures c.if-stands.false) (sym c.full-filled.ensures ∙ c.if-filled.false) (sym c.short-lacking.ensures ∙ c.if-lacking.true)

@@ -26,10 +26,10 @@ pub returns-then-at-n-gt65536 : goal.returns-then-at-n-gt65536
 returns-then-at-n-gt65536 c = let a = c.args in piece-far a.at a.rest.now c.number.ensures c.if-room-lt16.false c.if-n-lt16.false c.if-room-n.false c.if-at-n-gt65536.true
 
 pub returns-then-rest-eq0 : goal.returns-then-rest-eq0
-returns-then-rest-eq0 c = let a = c.args in piece_removed a.at a.rest.now c.number.ensures c.if-room-lt16.false c.if-n-lt16.false c.if-room-n.false c.if-at-n-gt65536.false c.if-rest-eq0.true
+returns-then-rest-eq0 c = let a = c.args in piece_removed a.at a.rest.now c.number.ensures c.if-room-lt16.false c.if-n-lt16.false c.if-room-n.false (omega arith) c.if-rest-eq0.true
 
 pub returns-then-accepted : goal.returns-then-accepted
-returns-then-accepted c = let a = c.args in piece-fine a.at a.rest.now c.number.ensures c.if-room-lt16.false c.if-n-lt16.false c.if-room-n.false c.if-at-n-gt65536.false c.if-rest-eq0.false c.accepted.ensures c.if-accepted.true
+returns-then-accepted c = let a = c.args in piece-fine a.at a.rest.now c.number.ensures c.if-room-lt16.false c.if-n-lt16.false c.if-room-n.false (omega arith) c.if-rest-eq0.false c.accepted.ensures c.if-accepted.true
 
 pub returns : goal.returns
-returns c = let a = c.args in piece-flawed a.at a.rest.now c.number.ensures c.if-room-lt16.false c.if-n-lt16.false c.if-room-n.false c.if-at-n-gt65536.false c.if-rest-eq0.false c.accepted.ensures c.if-accepted.false
+returns c = let a = c.args in piece-flawed a.at a.rest.now c.number.ensures c.if-room-lt16.false c.if-n-lt16.false c.if-room-n.false (omega arith) c.if-rest-eq0.false c.accepted.ensures c.if-accepted.false
