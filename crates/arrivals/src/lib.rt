@@ -64,6 +64,7 @@ fn moved(marks: u64, by: u16) -> u64
 }
 
 // The arrival of a number: of 7, 7, 8, 7 at a fresh record the first and the third are passed.
+#[tactic(auto, using(crate::proofs::Rules::passed_ahead))]
 pub fn arrive(was: Record, number: u16) -> Arrival
     ensures { result ≡ specs.arrival was number }
 {

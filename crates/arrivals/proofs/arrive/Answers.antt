@@ -1,8 +1,8 @@
--- `arrivals::arrive` meets its contract: each return is a case of the rules. Assumes nothing.
-use Rattle.std.proofs.Common.{ℕ, sym, ap, ◌∙◌, arith, rules}
+-- `arrivals::arrive` meets its contract: each return is a case of the rules, and that of a number ahead of the newest is found by `passed_ahead`. Assumes nothing.
+use Rattle.std.proofs.Common.{ℕ, sym, ap, ◌∙◌, arith}
 use Rattle.bits.specs.Laws.{bit-on, bit_off}
 use Rattle.arrivals.specs.Says.{kept}
-use Rattle.arrivals.specs.Laws.{minus_is, arrival-first, arrival-seen, arrival-marked, arrival-further, arrival_old}
+use Rattle.arrivals.specs.Laws.{minus_is, arrival-first, arrival-seen, arrival-marked, arrival_old}
 use Rattle.arrivals.specs.declared.Arrival.TheVariants.{Passed}
 use Rattle.arrivals.proofs.arrive.Goals as goal
 
@@ -23,14 +23,6 @@ returns-then-behind-lt64 c =
     ∙ sym (arrival-marked a.was a.number (λ z. omega arith) (omega arith) (omega arith)
     (minus_is (omega arith) (omega arith) c.wrapping_sub_u16-ahead.ensures.value) (minus_is (omega arith) (omega arith) c.wrapping_sub_u16-behind.ensures.value)
     (omega arith) (bit_off _ a.was.marks (sym c.bit.ensures ∙ c.if-bit.false)))
-
-pub returns-then-ahead-le32767 : goal.returns-then-ahead-le32767
-returns-then-ahead-le32767 c =
-    let a = c.args in
-    ap (λ (m : ℕ). Passed (kept a.number m)) c.moved.ensures
-    ∙ sym (arrival-further a.was a.number (λ z. omega arith) (omega arith) (omega arith)
-    (minus_is (omega arith) (omega arith) c.wrapping_sub_u16-ahead.ensures.value) (minus_is (omega arith) (omega arith) c.wrapping_sub_u16-behind.ensures.value)
-    (omega arith) (omega arith))
 
 pub returns : goal.returns
 returns c =

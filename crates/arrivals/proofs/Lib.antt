@@ -1,0 +1,2 @@
+-- What a proof by tactics may use.
+pub mod Rules
