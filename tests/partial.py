@@ -23,15 +23,20 @@ def reached(names):
     return {name: depends[name] for name in found}
 
 
-def copy(to, names, own, needs):
-    """Copies the crates that `names` reach into the folder `to`, and lists the crate `own`, which needs `needs`; its folder for sources."""
-    crates = reached(names)
-    for name in crates:
+def crates(to, names, more=()):
+    """Copies the crates that `names` reach into the folder `to`, and lists them and `more`, each of these with what it needs."""
+    found = reached(names)
+    for name in found:
         # (what its checks kept is large, and the library that they built is enough)
         shutil.copytree(os.path.join(ROOT, "crates", name), os.path.join(to, "crates", name), ignore=shutil.ignore_patterns("incremental"))
     with open(os.path.join(to, "crates.txt"), "w", encoding="utf-8") as lines:
-        for name, depends in [*crates.items(), (own, needs)]:
+        for name, depends in [*found.items(), *more]:
             lines.write(f"{name}:{''.join(' ' + x for x in depends)}\n")
+
+
+def copy(to, names, own, needs):
+    """The same with a crate `own` of a test's, which needs `needs`; its folder for sources."""
+    crates(to, names, [(own, needs)])
     sources = os.path.join(to, "crates", own, "src")
     os.makedirs(sources)
     return sources
