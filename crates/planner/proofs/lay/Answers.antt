@@ -6,12 +6,12 @@ use Rattle.planner.proofs.lay.Goals as goal
 pub overflow_cast-mesh : goal.overflow_cast-mesh
 overflow_cast-mesh c =
     let a = c.args in
-    omega (arith, cube-few a.mesh.kind a.mesh.size a.source a.targets.now a.places.now a.counts.now c.requires c.if-mesh-eq-CUBE.true)
+    omega (arith, cube-few a.mesh.kind a.mesh.size a.source a.targets.now a.places.now a.counts.now c.requires (omega arith))
 
 pub fan_through-requires : goal.fan_through-requires
 fan_through-requires c =
     let a = c.args in
-    cube_sought a.mesh.kind a.mesh.size a.source a.targets.now a.places.now a.counts.now c.requires c.if-mesh-eq-CUBE.true
+    cube_sought a.mesh.kind a.mesh.size a.source a.targets.now a.places.now a.counts.now c.requires (omega arith)
 
 pub returns-then-mesh-eq-CUBE : goal.returns-then-mesh-eq-CUBE
 returns-then-mesh-eq-CUBE c =
@@ -27,21 +27,21 @@ places_in-w-requires c =
 pub overflow_cast-mesh-then-mesh-eq-TWO : goal.overflow_cast-mesh-then-mesh-eq-TWO
 overflow_cast-mesh-then-mesh-eq-TWO c =
     let a = c.args in
-    omega (arith, two-few a.mesh.kind a.mesh.size a.source a.targets.now a.places.now a.counts.now c.requires c.if-mesh-eq-CUBE.false c.if-mesh-eq-TWO.true)
+    omega (arith, two-few a.mesh.kind a.mesh.size a.source a.targets.now a.places.now a.counts.now c.requires (omega arith) c.if-mesh-eq-TWO.true)
 
 pub lay-requires : goal.lay-requires
 lay-requires c =
     let a = c.args in
-    two-asked a.mesh.kind a.mesh.size a.source a.targets.now a.places.now a.counts.now c.requires c.if-mesh-eq-CUBE.false c.if-mesh-eq-TWO.true
+    two-asked a.mesh.kind a.mesh.size a.source a.targets.now a.places.now a.counts.now c.requires (omega arith) c.if-mesh-eq-TWO.true
     c.places_in-w.ensures
 
 pub returns-then-mesh-eq-TWO : goal.returns-then-mesh-eq-TWO
 returns-then-mesh-eq-TWO c =
     let a = c.args in
-    two-laid a.mesh.kind a.mesh.size a.source a.targets.now a.places.now a.counts.now c.requires c.if-mesh-eq-CUBE.false c.if-mesh-eq-TWO.true
+    two-laid a.mesh.kind a.mesh.size a.source a.targets.now a.places.now a.counts.now c.requires (omega arith) c.if-mesh-eq-TWO.true
     c.lay.ensures c.lay.auto.places c.lay.auto.counts
 
 pub returns : goal.returns
 returns c =
     let a = c.args in
-    none_left a.mesh.kind a.mesh.size a.source a.targets.now a.places.now a.counts.now c.requires c.if-mesh-eq-CUBE.false c.if-mesh-eq-TWO.false
+    none_left a.mesh.kind a.mesh.size a.source a.targets.now a.places.now a.counts.now c.requires (omega arith) c.if-mesh-eq-TWO.false
