@@ -49,4 +49,4 @@ returns c =
     let k = class_bits a.size.0 in
     let m = part_bits a.size.0 in
     c.after.ensures ∙ ap₂ after c.class_bits.ensures c.class_of-2.ensures
-    ∙ sym (heading-on k m (class_of k m a.u) (class_of k m a.t) (bit_xor a.u a.t) (λ z. c.if-u-t-eq0.false ((let parts : let a = c.args in bit_xor a.u a.t % c.power.result ≡ parts_of (class_bits a.size.0) (part_bits a.size.0) (bit_xor a.u a.t) = let a = c.args in ap (λ (x : ℕ). bit_xor a.u a.t % x) (c.power.ensures ∙ ap (λ (n : ℕ). 2 ^ n) c.span_in-span.ensures) in parts) ∙ z)))
+    ∙ sym (heading-on k m (class_of k m a.u) (class_of k m a.t) (bit_xor a.u a.t) (λ z. omega (arith, (let parts : let a = c.args in bit_xor a.u a.t % c.power.result ≡ parts_of (class_bits a.size.0) (part_bits a.size.0) (bit_xor a.u a.t) = let a = c.args in ap (λ (x : ℕ). bit_xor a.u a.t % x) (c.power.ensures ∙ ap (λ (n : ℕ). 2 ^ n) c.span_in-span.ensures) in parts) ∙ z)))
