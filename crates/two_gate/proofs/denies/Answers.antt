@@ -1,4 +1,4 @@
-use Rattle.std.proofs.Common.{sym, ◌∙◌, inl, inr}
+use Rattle.std.proofs.Common.{sym, ◌∙◌, inl, inr, arith}
 use Rattle.two_gate.specs.Says.{tells_no, tells_yes, tells-same, denied_last, never}
 use Rattle.two_gate.proofs.denies.Goals as goal
 
@@ -20,7 +20,7 @@ returns-then-both-2 c =
 pub returns-then-done : goal.returns-then-done
 returns-then-done c =
     let a = c.args in
-    let last = denied_last a.s0 a.bj a.q a.bi a.pi a.done a.qi (λ z. c.if-g-bi.false (c.flip-g.ensures ∙ z))
+    let last = denied_last a.s0 a.bj a.q a.bi a.pi a.done a.qi (λ z. omega (arith, c.flip-g.ensures ∙ z))
     (c.both.ensures.not c.if-both.false)
     (λ z. c.both-2.ensures.not c.if-both-2.false (z.0, c.flip-g.ensures ∙ z.1 ∙ sym c.flip.ensures)) in
     tells-same _ _ (λ z. inr (inr (inr (c.if-done.true, sym c.flip-g.ensures ∙ z ∙ c.flip-then-done.ensures)))) (λ z. c.flip-g.ensures ∙ (last z).1 ∙ sym c.flip-then-done.ensures)
@@ -29,7 +29,7 @@ returns-then-done c =
 pub returns : goal.returns
 returns c =
     let a = c.args in
-    let last = denied_last a.s0 a.bj a.q a.bi a.pi a.done a.qi (λ z. c.if-g-bi.false (c.flip-g.ensures ∙ z))
+    let last = denied_last a.s0 a.bj a.q a.bi a.pi a.done a.qi (λ z. omega (arith, c.flip-g.ensures ∙ z))
     (c.both.ensures.not c.if-both.false)
     (λ z. c.both-2.ensures.not c.if-both-2.false (z.0, c.flip-g.ensures ∙ z.1 ∙ sym c.flip.ensures)) in
     tells_no (λ z. never a.done (last z).0 c.if-done.false)
