@@ -1,4 +1,4 @@
-use Rattle.std.proofs.Common.{◌-◌, sym, ap, ◌∙◌, rules}
+use Rattle.std.proofs.Common.{sym, ap, ◌∙◌, arith}
 use Rattle.sheet.specs.Format.{after}
 use Rattle.sheet_take.specs.Says.{wrong_at, stride_told}
 use Rattle.sheet_take.specs.Looking.{Looking, looking_starts, looking_more, looking_stops, looking_left, looking_ends, strode_next, strode_flawed}
@@ -21,4 +21,4 @@ pub returns-then-at-bytes : goal.returns-then-at-bytes
 returns-then-at-bytes c = looking_left c.loop-i.invariant c.loop-i-test.false c.if-at-bytes.true
 
 pub returns : goal.returns
-returns c = looking_ends c.loop-i.invariant c.loop-i-test.false c.if-at-bytes.false
+returns c = looking_ends c.loop-i.invariant c.loop-i-test.false (omega arith)

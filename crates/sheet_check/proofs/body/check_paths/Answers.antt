@@ -1,5 +1,5 @@
 -- `sheet_check::body::check_paths` meets its contract: the paths one by one, and then the judge. Assumes nothing.
-use Rattle.std.proofs.Common.{refl, sym, ap, ◌∙◌, rules}
+use Rattle.std.proofs.Common.{refl, sym, ap, ◌∙◌, arith}
 use Rattle.sheet_take.specs.Says.{looked_of}
 use Rattle.sheet_check.specs.Bodied.{body-known, body_long, longest_is, body_small}
 use Rattle.sheet_check.specs.Checking.{paths-flawed, paths_judgeable, paths-fan, paths-not}
@@ -28,4 +28,4 @@ pub returns-then-number-eq0 : goal.returns-then-number-eq0
 returns-then-number-eq0 c = paths-fan c.requires (longest_is c.requires c.places_in-longest.ensures) (sym (ap looked_of c.in_default.is) ∙ c.look-looked.ensures) c.judged-verdict.ensures c.number-number.ensures refl refl c.if-number-eq0.true
 
 pub returns : goal.returns
-returns c = paths-not c.requires (longest_is c.requires c.places_in-longest.ensures) (sym (ap looked_of c.in_default.is) ∙ c.look-looked.ensures) c.judged-verdict.ensures c.number-number.ensures c.if-number-eq0.false c.path.ensures c.place.ensures c.flaw_in.ensures
+returns c = paths-not c.requires (longest_is c.requires c.places_in-longest.ensures) (sym (ap looked_of c.in_default.is) ∙ c.look-looked.ensures) c.judged-verdict.ensures c.number-number.ensures (omega arith) c.path.ensures c.place.ensures c.flaw_in.ensures
