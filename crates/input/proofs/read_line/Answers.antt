@@ -23,7 +23,7 @@ loop-n-preserved g c = record {
   within = c.in_ok-got.ensures.within;
   kept = omega arith;
   bytes = filled_more _ _ _ _ _ c.loop-n.n _ c.in_ok-got.ensures.before c.loop-n.invariant.bytes c.in_ok-got.ensures.bytes;
-  no_end = no_end_within _ _ c.in_ok-got.ensures.within c.has_end.ensures c.if-has_end.false;
+  no_end = no_end_within _ _ c.in_ok-got.ensures.within c.has_end.ensures (cc);
 }
 
 pub loop-n-init : goal.loop-n-init
