@@ -1,18 +1,12 @@
 -- Answers that tell the same are the same (`answer_unique`, `yes_no_unique`, `checked_unique`): so a promise of what an answer tells leaves
 -- one answer. The numbers of refusals are neither 0 nor those of findings (`number_apart`). Assumes nothing.
-use Rattle.std.specs.Prelude.{ℕ, zero, suc, ◌<◌, ◌≡◌, refl, Bool, true, false, eqb, leb}
+use Rattle.std.specs.Prelude.{ℕ, ◌<◌, ◌≡◌, refl, Bool, false, Result, Ok, Err, ⊤, eqb, leb}
 use Rattle.std.proofs.Common.{sym, ap, ◌∙◌, arith}
 use Rattle.std.proofs.Math.Option.{Option, none, some}
 use Rattle.scan.specs.Scan.{pick}
 use Rattle.answers.specs.Told.{number, place, Told, told, tell, answer_told, yes_no_told, checked_told, against}
 use Rattle.answers.specs.declared.Refusal.{Refusal}
 use Rattle.answers.specs.declared.Refusal.TheVariants.{Unreadable, UnknownSize, NotServed, NoDistance, SourceOut, NoTarget, TooMany, TargetOut, TargetIsSource, TargetAgain, BadDoors, SourceStopped, TargetStopped, TooLarge, NoRoom, NoPath}
-use Rattle.answers.specs.declared.Answer.{Answer}
-use Rattle.answers.specs.declared.Answer.TheVariants as answer
-use Rattle.answers.specs.declared.Checked.{Checked}
-use Rattle.answers.specs.declared.Checked.TheVariants as checked
-use Rattle.answers.specs.declared.YesNo.{YesNo}
-use Rattle.answers.specs.declared.YesNo.TheVariants as yesno
 
 -- the numbers of the judge's findings
 unfoldable pub is_finding : ℕ → Bool
@@ -98,31 +92,30 @@ number-few NoPath = omega arith
 pub number-some : (why : Refusal) → eqb (number why) 0 ≡ false
 number-some why = (number_apart why).0
 
-answer_of : Told ℕ → Answer
-answer_of (told n p v) = pick (eqb n 0) (answer.Value v) (answer.Refused (refusal n p))
+answer_of : Told ℕ → Result ℕ Refusal
+answer_of (told n p v) = pick (eqb n 0) (Ok v) (Err (refusal n p))
 
-answer_back : (a : Answer) → answer_of (answer_told a) ≡ a
+answer_back : (a : Result ℕ Refusal) → answer_of (answer_told a) ≡ a
 unfolding answer_of
-answer_back (answer.Value v) = refl
-answer_back (answer.Refused why) =
-    ap (λ (b : Bool). pick b (answer.Value 0) (answer.Refused (refusal (number why) (place why)))) (number-some why)
-    ∙ ap answer.Refused (refusal_back why)
+answer_back (Ok v) = refl
+answer_back (Err why) =
+    ap (λ (b : Bool). pick b (Ok 0) (Err (refusal (number why) (place why)))) (number-some why)
+    ∙ ap (λ (r : Refusal). Err r) (refusal_back why)
 
-pub answer_unique : (a b : Answer) → answer_told a ≡ answer_told b → a ≡ b
+pub answer_unique : (a b : Result ℕ Refusal) → answer_told a ≡ answer_told b → a ≡ b
 answer_unique a b e = sym (answer_back a) ∙ ap answer_of e ∙ answer_back b
 
-yes_no_of : Told Bool → YesNo
-yes_no_of (told n p v) = pick (eqb n 0) (pick v yesno.Yes yesno.No) (yesno.Refused (refusal n p))
+yes_no_of : Told Bool → Result Bool Refusal
+yes_no_of (told n p v) = pick (eqb n 0) (Ok v) (Err (refusal n p))
 
-yes_no_back : (a : YesNo) → yes_no_of (yes_no_told a) ≡ a
+yes_no_back : (a : Result Bool Refusal) → yes_no_of (yes_no_told a) ≡ a
 unfolding yes_no_of
-yes_no_back yesno.Yes = refl
-yes_no_back yesno.No = refl
-yes_no_back (yesno.Refused why) =
-    ap (λ (b : Bool). pick b yesno.No (yesno.Refused (refusal (number why) (place why)))) (number-some why)
-    ∙ ap yesno.Refused (refusal_back why)
+yes_no_back (Ok b) = refl
+yes_no_back (Err why) =
+    ap (λ (b : Bool). pick b (Ok false) (Err (refusal (number why) (place why)))) (number-some why)
+    ∙ ap (λ (r : Refusal). Err r) (refusal_back why)
 
-pub yes_no_unique : (a b : YesNo) → yes_no_told a ≡ yes_no_told b → a ≡ b
+pub yes_no_unique : (a b : Result Bool Refusal) → yes_no_told a ≡ yes_no_told b → a ≡ b
 yes_no_unique a b e = sym (yes_no_back a) ∙ ap yes_no_of e ∙ yes_no_back b
 
 -- what is told of a refusal, or of none, says which it was
@@ -134,14 +127,14 @@ unfolding against_of
 tell_back none = refl
 tell_back (some why) = ap (λ (b : Bool). pick b none (some (refusal (number why) (place why)))) (number-some why) ∙ ap some (refusal_back why)
 
-pub checked_against : (r : Checked) (o : Option Refusal) → checked_told r ≡ tell o 0 0 → against r ≡ o
+pub checked_against : (r : Result ⊤ Refusal) (o : Option Refusal) → checked_told r ≡ tell o 0 0 → against r ≡ o
 checked_against r o e = sym (tell_back (against r)) ∙ ap against_of e ∙ tell_back o
 
-pub checked_unique : (a b : Checked) → against a ≡ against b → a ≡ b
-checked_unique checked.Fine checked.Fine e = refl
-checked_unique checked.Fine (checked.Refused why) e = let z : ◌≡◌ {A = ℕ} 0 1 = cc in absurd (omega arith)
-checked_unique (checked.Refused why) checked.Fine e = let z : ◌≡◌ {A = ℕ} 0 1 = cc in absurd (omega arith)
-checked_unique (checked.Refused why) (checked.Refused other) e = ap checked.Refused (inner e)
+pub checked_unique : (a b : Result ⊤ Refusal) → against a ≡ against b → a ≡ b
+checked_unique (Ok x) (Ok y) e = refl
+checked_unique (Ok x) (Err why) e = let z : ◌≡◌ {A = ℕ} 0 1 = cc in absurd (omega arith)
+checked_unique (Err why) (Ok x) e = let z : ◌≡◌ {A = ℕ} 0 1 = cc in absurd (omega arith)
+checked_unique (Err why) (Err other) e = ap (λ (r : Refusal). Err r) (inner e)
   where
     inner : {x y : Refusal} → some x ≡ some y → x ≡ y
     inner e = cc

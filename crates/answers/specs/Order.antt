@@ -7,7 +7,7 @@ use Rattle.std.proofs.Math.Option.{Option, none, some}
 use Rattle.scan.specs.Scan.{Spot, nowhere, at, pick, seek, among}
 use Rattle.answers.specs.Told.{number}
 use Rattle.answers.specs.declared.Refusal.{Refusal}
-use Rattle.answers.specs.declared.Refusal.TheVariants.{Unreadable, UnknownSize, NotServed, NoDistance, SourceOut, NoTarget, TooMany, TargetOut, TargetIsSource, TargetAgain, BadDoors, SourceStopped, TargetStopped, TooLarge, NoRoom, NoPath}
+use Rattle.answers.specs.declared.Refusal.TheVariants.{Unreadable, UnknownSize, NotServed, NoDistance, SourceOut, NoTarget, TooMany, TargetOut, TargetIsSource, TargetAgain, BadDoors, SourceStopped, TargetStopped, TooLarge, NoRoom}
 
 -- ---- faults
 
@@ -73,6 +73,13 @@ append_refused a b e = first-append a b ∙ ap (λ (o : Option Refusal). before 
 
 pub append-fine : (a b : List Fault) → first a ≡ none → first (a ++ b) ≡ first b
 append-fine a b e = first-append a b ∙ ap (λ (o : Option Refusal). before o (first b)) e
+
+-- the same as code goes through two lists: what the first refuses is handed on, and else the second is asked
+pub handed : (a b : List Fault) {why : Refusal} → some why ≡ first a → some why ≡ first (a ++ b)
+handed a b e = sym (append_refused a b (sym e))
+
+pub asked_next : (a b : List Fault) {o : Option Refusal} → none ≡ first a → o ≡ first b → o ≡ first (a ++ b)
+asked_next a b e f = f ∙ sym (append-fine a b (sym e))
 
 -- ---- the lists of which the routines' are put together
 

@@ -4,15 +4,13 @@
 -- `pair-source`, `pair-target`, `pair-fine`: the first fault of a pair, and `pair_sound`: what a pair is that has none. `told_refused`, `told-fine`: what
 -- is told where a list of faults was looked through. `room_refused`, `room-short`, `room_granted`: the same list with want of room told last, and
 -- `lent_refused`, `lent-short`, `lent-fine`: what is then told and left in a lent slice.
-use Rattle.std.specs.Prelude.{ℕ, ◌≤◌, ◌<◌, ◌≡◌, refl, Bool, true, false, not, List, ◌++◌, leb}
+use Rattle.std.specs.Prelude.{ℕ, ◌≤◌, ◌<◌, ◌≡◌, refl, Bool, true, false, not, List, ◌++◌, Result, Ok, Err, leb}
 use Rattle.std.proofs.Common.{sym, ap, ◌∙◌, le-leb, leb-false}
 use Rattle.std.proofs.Math.Option.{Option, none, some}
 use Rattle.std.proofs.lemmas.Bool.{lt-leb, not-false}
-use Rattle.scan.specs.Scan.{Spot, pick, at, nowhere}
-use Rattle.answers.specs.Order.{Fault, first, before, first-append, refuse-none, at_none, refused_not, refuse, refuse-at, size_faults, pair_faults, room_faults}
+use Rattle.scan.specs.Scan.{pick, at, nowhere}
+use Rattle.answers.specs.Order.{Fault, first, before, first-append, refuse-none, refused_not, refuse, refuse-at, size_faults, pair_faults, room_faults}
 use Rattle.answers.specs.Told.{told, tell, leaves, against}
-use Rattle.answers.specs.declared.Checked.{Checked}
-use Rattle.answers.specs.declared.Checked.TheVariants as checked
 use Rattle.answers.specs.declared.Refusal.{Refusal}
 use Rattle.answers.specs.declared.Refusal.TheVariants.{UnknownSize, SourceOut, TargetOut, NoRoom}
 
@@ -60,11 +58,11 @@ pair_sound known relays s t e =
 
 -- ---- what is told of what was checked
 
-module _ {A : Type 0} {o : Option Refusal} {r : Checked} (nothing v : A) where
-  pub told_refused : {why : Refusal} → r ≡ checked.Refused why → against r ≡ o → tell (some why) nothing nothing ≡ tell o nothing v
+module _ {A T : Type 0} {o : Option Refusal} {r : Result T Refusal} (nothing v : A) where
+  pub told_refused : {why : Refusal} → r ≡ Err why → against r ≡ o → tell (some why) nothing nothing ≡ tell o nothing v
   told_refused e p = ap (λ (o : Option Refusal). tell o nothing v) (sym (ap against e) ∙ p)
 
-  pub told-fine : {w : A} → r ≡ checked.Fine → against r ≡ o → w ≡ v → told 0 0 w ≡ tell o nothing v
+  pub told-fine : {w : A} {x : T} → r ≡ Ok x → against r ≡ o → w ≡ v → told 0 0 w ≡ tell o nothing v
   told-fine e p q = ap (told 0 0) q ∙ ap (λ (o : Option Refusal). tell o nothing v) (sym (ap against e) ∙ p)
 
 -- ---- with a lent slice
@@ -74,18 +72,18 @@ module _ (l : List Fault) (room : Bool) where
   pub room-last : first (l ++ room_faults room) ≡ before (first l) (refuse room NoRoom none)
   room-last = first-append l (room_faults room)
 
-  module _ {r : Checked} (e : against r ≡ first l) where
-    after-room : {c : Checked} → r ≡ c → before (against c) (refuse room NoRoom none) ≡ first (l ++ room_faults room)
+  module _ {T : Type 0} {r : Result T Refusal} (e : against r ≡ first l) where
+    after-room : {c : Result T Refusal} → r ≡ c → before (against c) (refuse room NoRoom none) ≡ first (l ++ room_faults room)
     after-room f = ap (λ (o : Option Refusal). before o (refuse room NoRoom none)) (sym (ap against f) ∙ e) ∙ sym room-last
 
-    pub room_refused : {why : Refusal} → r ≡ checked.Refused why → some why ≡ first (l ++ room_faults room)
+    pub room_refused : {why : Refusal} → r ≡ Err why → some why ≡ first (l ++ room_faults room)
     room_refused f = after-room f
 
     -- the flag is what code has of the want of room
-    pub room-short : {flag : Bool} → r ≡ checked.Fine → flag ≡ room → flag ≡ true → some NoRoom ≡ first (l ++ room_faults room)
+    pub room-short : {flag : Bool} {x : T} → r ≡ Ok x → flag ≡ room → flag ≡ true → some NoRoom ≡ first (l ++ room_faults room)
     room-short f w t = ap (λ (b : Bool). refuse b NoRoom none) (sym t ∙ w) ∙ after-room f
 
-    pub room_granted : {flag : Bool} → r ≡ checked.Fine → flag ≡ room → flag ≡ false → none ≡ first (l ++ room_faults room)
+    pub room_granted : {flag : Bool} {x : T} → r ≡ Ok x → flag ≡ room → flag ≡ false → none ≡ first (l ++ room_faults room)
     room_granted f w t = ap (λ (b : Bool). refuse b NoRoom none) (sym t ∙ w) ∙ after-room f
 
   -- v is told and `now` is left, unless a fault holds; `was` is what was lent
@@ -96,12 +94,12 @@ module _ (l : List Fault) (room : Bool) where
     lent : {o : Option Refusal} → o ≡ first (l ++ room_faults room) → Lent o
     lent e = (ap (λ (o : Option Refusal). tell o 0 v) e, ap (λ (o : Option Refusal). leaves o was now) e)
 
-    module _ {r : Checked} (e : against r ≡ first l) where
-      pub lent_refused : {why : Refusal} → r ≡ checked.Refused why → Lent (some why)
+    module _ {T : Type 0} {r : Result T Refusal} (e : against r ≡ first l) where
+      pub lent_refused : {why : Refusal} → r ≡ Err why → Lent (some why)
       lent_refused f = lent (room_refused e f)
 
-      pub lent-short : r ≡ checked.Fine → room ≡ true → Lent (some NoRoom)
+      pub lent-short : {x : T} → r ≡ Ok x → room ≡ true → Lent (some NoRoom)
       lent-short f w = lent (room-short e f refl w)
 
-      pub lent-fine : r ≡ checked.Fine → room ≡ false → Lent none
+      pub lent-fine : {x : T} → r ≡ Ok x → room ≡ false → Lent none
       lent-fine f w = lent (room_granted e f refl w)

@@ -1,15 +1,9 @@
 -- What each answer tells: the specification's number and place, and a value. 0, place 0 and the value where all is well; of a
 -- refusal its number and its place, and no value (0, or no).
-use Rattle.std.specs.Prelude.{ℕ, Bool, true, false, List}
+use Rattle.std.specs.Prelude.{ℕ, Bool, false, List, Result, Ok, Err, ⊤}
 use Rattle.std.proofs.Math.Option.{Option, none, some}
 use Rattle.answers.specs.declared.Refusal.{Refusal}
 use Rattle.answers.specs.declared.Refusal.TheVariants.{Unreadable, UnknownSize, NotServed, NoDistance, SourceOut, NoTarget, TooMany, TargetOut, TargetIsSource, TargetAgain, BadDoors, SourceStopped, TargetStopped, TooLarge, NoRoom, NoPath}
-use Rattle.answers.specs.declared.Answer.{Answer}
-use Rattle.answers.specs.declared.Answer.TheVariants as answer
-use Rattle.answers.specs.declared.Checked.{Checked}
-use Rattle.answers.specs.declared.Checked.TheVariants as checked
-use Rattle.answers.specs.declared.YesNo.{YesNo}
-use Rattle.answers.specs.declared.YesNo.TheVariants as yesno
 
 -- the number of a refusal
 abbrev pub number : Refusal → ℕ
@@ -72,20 +66,24 @@ abbrev pub leaves : Option Refusal → List ℕ → List ℕ → List ℕ
 leaves none was now = now
 leaves (some why) was now = was
 
-abbrev pub answer_told : Answer → Told ℕ
-answer_told (answer.Value v) = tell none 0 v
-answer_told (answer.Refused why) = tell (some why) 0 0
+-- what stands against a call, or nothing
+abbrev pub against : {T : Type 0} → Result T Refusal → Option Refusal
+against (Ok x) = none
+against (Err why) = some why
 
-abbrev pub yes_no_told : YesNo → Told Bool
-yes_no_told yesno.Yes = tell none false true
-yes_no_told yesno.No = tell none false false
-yes_no_told (yesno.Refused why) = tell (some why) false false
+abbrev pub answer_told : Result ℕ Refusal → Told ℕ
+answer_told (Ok v) = tell none 0 v
+answer_told (Err why) = tell (some why) 0 0
 
--- what stands against a request, or nothing
-abbrev pub against : Checked → Option Refusal
-against checked.Fine = none
-against (checked.Refused why) = some why
+abbrev pub yes_no_told : Result Bool Refusal → Told Bool
+yes_no_told (Ok b) = tell none false b
+yes_no_told (Err why) = tell (some why) false false
 
 -- number and place of what was checked; there is no value
-abbrev pub checked_told : Checked → Told ℕ
+abbrev pub checked_told : Result ⊤ Refusal → Told ℕ
 checked_told r = tell (against r) 0 0
+
+-- 0, or what is told of the reason
+abbrev pub of_reason : {T R : Type 0} → (R → ℕ) → Result T R → ℕ
+of_reason told-by (Ok x) = 0
+of_reason told-by (Err why) = told-by why

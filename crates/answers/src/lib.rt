@@ -1,7 +1,7 @@
 // What comes back: a value, or the reason why there is none, with the specification's number and place for each.
 #![tactic(auto)]
 
-ghost use Rattle.std.specs.Prelude.{◌≡◌};
+ghost use Rattle.std.specs.Prelude.{◌≡◌, ℕ};
 ghost use Rattle.answers.specs.Told as specs;
 
 // Why a request is refused. A reason that is about one target has its place in the list of targets, from 0.
@@ -41,33 +41,33 @@ pub enum Refusal {
     NoPath,
 }
 
-// A number, or a refusal.
-#[derive(Clone, Copy)]
-pub enum Answer {
-    Value(u64),
-    Refused(Refusal),
+// What can stand against a call: the specification's number, and the path and the place that are told with it, which are 0 where it is about none.
+pub trait Reason: Copy {
+    ghost number_told: { Self → ℕ };
+
+    ghost path_told: { Self → ℕ };
+
+    ghost place_told: { Self → ℕ };
+
+    fn number(self) -> u64
+        ensures { result ≡ number_told self };
+
+    fn path(self) -> usize
+        ensures { result ≡ path_told self };
+
+    fn place(self) -> usize
+        ensures { result ≡ place_told self };
 }
 
-// Yes, no, or a refusal.
-#[derive(Clone, Copy)]
-pub enum YesNo {
-    Yes,
-    No,
-    Refused(Refusal),
-}
+impl Reason for Refusal {
+    ghost number_told = { specs.number };
 
-// Nothing against it, or the first thing that is.
-#[derive(Clone, Copy)]
-pub enum Checked {
-    Fine,
-    Refused(Refusal),
-}
+    ghost path_told = { λ why. 0 };
 
-impl Refusal {
+    ghost place_told = { specs.place };
+
     // The specification's number of the reason: `Refusal::SourceOut.number()` is 2.
-    pub fn number(self) -> u64
-        ensures { result ≡ specs.number self }
-    {
+    fn number(self) -> u64 {
         match self {
             Refusal::Unreadable => 10,
             Refusal::UnknownSize => 1,
@@ -88,116 +88,62 @@ impl Refusal {
         }
     }
 
+    // No reason of a request is about a path.
+    fn path(self) -> usize {
+        0
+    }
+
     // The place that is told with it: `Refusal::TargetOut(3).place()` is 3.
-    pub fn place(self) -> usize
-        ensures { result ≡ specs.place self }
-    {
+    fn place(self) -> usize {
         match self {
-            Refusal::Unreadable => 0,
-            Refusal::UnknownSize => 0,
-            Refusal::NotServed => 0,
-            Refusal::NoDistance => 0,
-            Refusal::SourceOut => 0,
-            Refusal::NoTarget => 0,
-            Refusal::TooMany => 0,
             Refusal::TargetOut(at) => at,
             Refusal::TargetIsSource(at) => at,
             Refusal::TargetAgain(at) => at,
-            Refusal::BadDoors => 0,
-            Refusal::SourceStopped => 0,
-            Refusal::TargetStopped => 0,
-            Refusal::TooLarge => 0,
-            Refusal::NoRoom => 0,
-            Refusal::NoPath => 0,
+            _ => 0,
         }
     }
 }
 
-impl Answer {
-    // 0, or the reason's number.
-    pub fn number(self) -> u64
-        ensures { result ≡ specs.number_of (specs.answer_told self) }
-    {
-        match self {
-            Answer::Value(_) => 0,
-            Answer::Refused(why) => why.number(),
-        }
-    }
-
-    // 0, or the reason's place.
-    pub fn place(self) -> usize
-        ensures { result ≡ specs.place_of (specs.answer_told self) }
-    {
-        match self {
-            Answer::Value(_) => 0,
-            Answer::Refused(why) => why.place(),
-        }
-    }
-
-    // The value, or 0.
-    pub fn value(self) -> u64
-        ensures { result ≡ specs.value_of (specs.answer_told self) }
-    {
-        match self {
-            Answer::Value(v) => v,
-            Answer::Refused(_) => 0,
-        }
+// 0, or the reason's number: of `Err(Refusal::SourceOut)` it is 2.
+pub fn number<T: Copy, R: Reason>(answer: Result<T, R>) -> u64
+    ensures { result ≡ specs.of_reason R.number_told answer }
+{
+    match answer {
+        Ok(_) => 0,
+        Err(why) => why.number(),
     }
 }
 
-impl YesNo {
-    // 0, or the reason's number.
-    pub fn number(self) -> u64
-        ensures { result ≡ specs.number_of (specs.yes_no_told self) }
-    {
-        match self {
-            YesNo::Yes => 0,
-            YesNo::No => 0,
-            YesNo::Refused(why) => why.number(),
-        }
-    }
-
-    // 0, or the reason's place.
-    pub fn place(self) -> usize
-        ensures { result ≡ specs.place_of (specs.yes_no_told self) }
-    {
-        match self {
-            YesNo::Yes => 0,
-            YesNo::No => 0,
-            YesNo::Refused(why) => why.place(),
-        }
-    }
-
-    // Whether it is yes: a refusal is no.
-    pub fn yes(self) -> bool
-        ensures { result ≡ specs.value_of (specs.yes_no_told self) }
-    {
-        match self {
-            YesNo::Yes => true,
-            YesNo::No => false,
-            YesNo::Refused(_) => false,
-        }
+// 0, or the reason's path.
+pub fn path<T: Copy, R: Reason>(answer: Result<T, R>) -> usize
+    ensures { result ≡ specs.of_reason R.path_told answer }
+{
+    match answer {
+        Ok(_) => 0,
+        Err(why) => why.path(),
     }
 }
 
-impl Checked {
-    // 0, or the reason's number.
-    pub fn number(self) -> u64
-        ensures { result ≡ specs.number_of (specs.checked_told self) }
-    {
-        match self {
-            Checked::Fine => 0,
-            Checked::Refused(why) => why.number(),
-        }
+// 0, or the reason's place.
+pub fn place<T: Copy, R: Reason>(answer: Result<T, R>) -> usize
+    ensures { result ≡ specs.of_reason R.place_told answer }
+{
+    match answer {
+        Ok(_) => 0,
+        Err(why) => why.place(),
     }
+}
 
-    // 0, or the reason's place.
-    pub fn place(self) -> usize
-        ensures { result ≡ specs.place_of (specs.checked_told self) }
-    {
-        match self {
-            Checked::Fine => 0,
-            Checked::Refused(why) => why.place(),
-        }
-    }
+// The value, and 0 of a refusal.
+pub fn value(answer: Result<u64, Refusal>) -> u64
+    ensures { result ≡ specs.value_of (specs.answer_told answer) }
+{
+    answer.unwrap_or(0)
+}
+
+// Whether it is yes: a refusal is no.
+pub fn yes(answer: Result<bool, Refusal>) -> bool
+    ensures { result ≡ specs.value_of (specs.yes_no_told answer) }
+{
+    answer.unwrap_or(false)
 }

@@ -1,9 +1,7 @@
 -- A run of numbers i, i + 1, .. searched by a test: the first at which it holds (`seek`), whether there is one (`any`), and at
 -- how many of the numbers below n it holds (`count`). What stands in a list, by a test: `among`, `has`; how many different numbers
 -- stand in it: `different`.
-use Rattle.std.specs.Prelude.{ℕ, zero, suc, Bool, true, false, List, [], ◌∷◌, eqb, length, get_or}
-use Rattle.scan.specs.declared.Spot as code
-use Rattle.scan.specs.declared.Spot.TheVariants as spot
+use Rattle.std.specs.Prelude.{ℕ, zero, suc, Bool, true, false, List, [], ◌∷◌, Option, Some, None, eqb, length, get_or}
 
 -- where a test first holds
 pub data Spot : Type 0 where
@@ -11,9 +9,9 @@ pub data Spot : Type 0 where
   at : ℕ → Spot
 
 -- what the code's answer says
-abbrev pub spot_of : code.Spot → Spot
-spot_of (spot.At j) = at j
-spot_of spot.Nowhere = nowhere
+abbrev pub spot_of : Option ℕ → Spot
+spot_of (Some j) = at j
+spot_of None = nowhere
 
 abbrev pub pick : {A : Type 0} → Bool → A → A → A
 pick true a b = a

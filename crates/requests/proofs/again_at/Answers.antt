@@ -1,7 +1,5 @@
-use Rattle.std.proofs.Common.{◌-◌, ◌∙◌, sym, ap, arith, rules, length}
-use Rattle.scan.specs.Scan.{at}
-use Rattle.scan.specs.Laws.{Passed, passed_start, passed_more, passed_at, passed_all}
-use Rattle.answers.specs.Order.{is_again}
+use Rattle.std.proofs.Common.{◌∙◌, sym, arith}
+use Rattle.scan.specs.Laws.{passed_start, passed_more, passed_at, passed_all}
 use Rattle.requests.proofs.again_at.Goals as goal
 
 pub loop-j-init : goal.loop-j-init

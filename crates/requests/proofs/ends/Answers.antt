@@ -1,16 +1,20 @@
--- `requests::ends` meets its contract: each return rewrites with the tests that led there. Assumes nothing.
-use Rattle.std.proofs.Common.{le-leb, eq-eqb, ne_eqb}
-use borrow.Author.Tests.{lt-leb}
+use Rattle.std.proofs.Common.{ℕ, List, eq-eqb, ne_eqb, [], ◌∷◌, eqb}
+use Rattle.std.proofs.lemmas.Result.{err_from_is_err_and}
+use Rattle.scan.specs.Scan.{pick, at, nowhere}
+use Rattle.answers.specs.declared.Refusal.TheVariants.{TargetIsSource}
+use Rattle.answers.specs.Order.{Fault, fault_at, pair_faults, handed, asked_next}
 use Rattle.requests.proofs.ends.Goals as goal
 
-pub returns-then-relays-source : goal.returns-then-relays-source
-returns-then-relays-source c = simp (le-leb _ _ c.if-relays-source.true)
+abbrev same : (source target : ℕ) → List Fault
+same s t = fault_at (pick (eqb t s) (at 0) nowhere) TargetIsSource ∷ []
 
-pub returns-then-relays-target : goal.returns-then-relays-target
-returns-then-relays-target c = simp (lt-leb _ _ c.if-relays-source.false, le-leb _ _ c.if-relays-target.true)
+pub returns-in_err-pair : goal.returns-in_err-pair
+returns-in_err-pair c =
+    let a = c.args in
+    let p = err_from_is_err_and c.from_residual.result c.from_residual.ensures.1 in rw (p.1, p.2) (handed (pair_faults a.relays a.source a.target) (same a.source a.target) c.in_err-pair.ensures)
 
 pub returns-then-target-source : goal.returns-then-target-source
-returns-then-target-source c = simp (lt-leb _ _ c.if-relays-source.false, lt-leb _ _ c.if-relays-target.false, eq-eqb _ _ c.if-target-source.true)
+returns-then-target-source c = let a = c.args in asked_next (pair_faults a.relays a.source a.target) (same a.source a.target) c.in_ok-pair.ensures (simp (eq-eqb _ _ c.if-target-source.true))
 
 pub returns : goal.returns
-returns c = simp (lt-leb _ _ c.if-relays-source.false, lt-leb _ _ c.if-relays-target.false, ne_eqb _ _ c.if-target-source.false)
+returns c = let a = c.args in asked_next (pair_faults a.relays a.source a.target) (same a.source a.target) c.in_ok-pair.ensures (simp (ne_eqb _ _ c.if-target-source.false))

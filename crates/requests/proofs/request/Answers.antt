@@ -1,5 +1,5 @@
 -- `requests::request` meets its contract: each return rewrites with the tests that led there. Assumes nothing.
-use Rattle.std.proofs.Common.{rules, le-leb, eq-eqb, ne_eqb, lt-ltb, le-ltb}
+use Rattle.std.proofs.Common.{le-leb, eq-eqb, ne_eqb, lt-ltb, le-ltb}
 use borrow.Author.Tests.{lt-leb}
 use Rattle.requests.proofs.request.Goals as goal
 

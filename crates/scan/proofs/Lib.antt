@@ -1,0 +1,2 @@
+-- Lemmas about what the library's methods give.
+mod Parts
