@@ -6,7 +6,10 @@ ghost use Rattle.answers.specs.Told.{against};
 ghost use Rattle.answers.specs.Order.{first, pair_faults, end_faults, request_faults, target_faults, first_at, is_out, is_same, is_again};
 ghost use Rattle.scan.specs.Scan.{spot_of};
 
+mod facts;
+
 use answers::Refusal;
+pub use facts::Facts;
 
 // The first target that is no relay.
 fn out_at(relays: u64, targets: &[u64]) -> Option<usize>
