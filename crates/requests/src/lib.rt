@@ -7,9 +7,11 @@ ghost use Rattle.answers.specs.Order.{first, pair_faults, end_faults, request_fa
 ghost use Rattle.scan.specs.Scan.{spot_of};
 
 mod facts;
+mod ways;
 
 use answers::Refusal;
 pub use facts::Facts;
+pub use ways::Ways;
 
 // The first target that is no relay.
 fn out_at(relays: u64, targets: &[u64]) -> Option<usize>
