@@ -1,16 +1,13 @@
 // The next hop.
 ghost use Rattle.std.specs.Prelude.{◌≡◌};
 ghost use Rattle.std.specs.Int.Bits.{bit_xor};
-ghost use Rattle.answers.specs.Told.{answer_told};
 ghost use Rattle.meta_parts.specs.Meta as specs;
 ghost use Rattle.meta_parts.specs.Needs.{Fine};
 ghost use Rattle.meta.specs.Cycle as cycle;
 ghost use Rattle.meta.specs.Next as walk;
-ghost use Rattle.meta.specs.Says.{next, next_told};
+ghost use Rattle.meta.specs.Says.{next};
 ghost use Rattle.meta.specs.Needs.{Class, Part, Apart};
 
-use crate::pairs;
-use answers::{Answer, Checked};
 use meta_parts::Metacube;
 
 // The class after class c in the cyclic Gray order of k bits: `after(2, 2)` is 0, the first after the last.
@@ -66,14 +63,4 @@ pub fn hop(size: Metacube, u: u64, t: u64) -> u64
         return u;
     }
     bits::flip(u, turn(size, u, t))
-}
-
-// The relay after source on the way to target, and target itself where they are the same: `next_hop(Metacube(66), 3, 31)` is 19. Refuses with 1, 2, 5.
-pub fn next_hop(size: Metacube, source: u64, target: u64) -> Answer
-    ensures { answer_told result ≡ next_told size.0 source target }
-{
-    match pairs::checked(size, source, target) {
-        Checked::Fine => Answer::Value(hop(size, source, target)),
-        Checked::Refused(why) => Answer::Refused(why),
-    }
 }

@@ -4,7 +4,7 @@ use Rattle.std.proofs.Common.{sym, ap, ◌∙◌, mod-lt, mul-le-mul, mul-le-mul
 use Rattle.std.proofs.lemmas.Bool.{lt-leb}
 use Rattle.scan.specs.Scan.{pick}
 use Rattle.scan.specs.Laws.{true-or, true-false}
-use Rattle.meta_parts.specs.Meta.{class_bits, part_bits, served, known, relays, longest}
+use Rattle.meta_parts.specs.Meta.{class_bits, part_bits, served, known, relays, longest, metacube}
 
 -- the bounds
 pub record Sized (k m : ℕ) : Type 0 where
@@ -72,3 +72,7 @@ module _ {k m : ℕ} (s : Sized k m) where
 
   pub longest-few : longest k m ≤ 44
   longest-few = omega (arith, s.narrow, classes_few s.few)
+
+-- of a size that there is no path is longer than 206 hops
+pub short-ways : (n : ℕ) → known n ≡ true → (metacube n).longest < 207
+short-ways n k = omega (arith, longest-few (known-sized n refl k))

@@ -1,10 +1,9 @@
 // The size of a metacube and its facts.
 ghost use Rattle.std.specs.Prelude.{◌≡◌, true, ◌+◌, ◌≤◌};
-ghost use Rattle.answers.specs.Told.{answer_told};
 ghost use Rattle.meta_parts.specs.Meta as specs;
-ghost use Rattle.meta_parts.specs.Says.{fact_told};
+ghost use Rattle.meta_parts.specs.Sizes.{short-ways};
 
-use answers::{Answer, Refusal};
+use requests::Facts;
 
 // The size of a metacube, k·64 + m for k class bits and parts of m bits: 130 has 2 class bits and four parts of 2 bits. Every number can be asked; what is
 // no size is refused by each routine.
@@ -15,11 +14,18 @@ impl Metacube {
     pub const MOST_CLASS_BITS: u64 = 3;
 
     pub const MOST_BITS: u64 = 37;
+}
+
+// Of size 130 there are 1024 relays with 4 links each, and the longest path has 13 hops.
+impl Facts for Metacube {
+    ghost is_known = { λ size. specs.known size.0 };
+
+    ghost mesh = { λ size. specs.metacube size.0 };
+
+    ghost short = { λ size known. short-ways size.0 known };
 
     // Whether there is a metacube of this size: `Metacube(82).known()` is true, `Metacube(83).known()` is false.
-    pub fn known(self) -> bool
-        ensures { result ≡ specs.known self.0 }
-    {
+    fn known(self) -> bool {
         let k = class_bits(self);
         if Self::MOST_CLASS_BITS < k {
             return false;
@@ -30,44 +36,16 @@ impl Metacube {
         k + span_in(self) <= Self::MOST_BITS
     }
 
-    // How many relays: `Metacube(130).relays()` is 1024.
-    pub fn relays(self) -> Answer
-        ensures { answer_told result ≡ fact_told self.0 (specs.metacube self.0).relays }
-    {
-        if self.known() {
-            return Answer::Value(relays_in(self));
-        }
-        Answer::Refused(Refusal::UnknownSize)
+    fn relays_in(self) -> u64 {
+        relays_in(self)
     }
 
-    // How many links each relay has: `Metacube(130).links()` is 4.
-    pub fn links(self) -> Answer
-        ensures { answer_told result ≡ fact_told self.0 (specs.metacube self.0).links }
-    {
-        if self.known() {
-            return Answer::Value(links_in(self));
-        }
-        Answer::Refused(Refusal::UnknownSize)
+    fn links_in(self) -> u64 {
+        links_in(self)
     }
 
-    // The hops of the longest path: `Metacube(130).longest()` is 13.
-    pub fn longest(self) -> Answer
-        ensures { answer_told result ≡ fact_told self.0 (specs.metacube self.0).longest }
-    {
-        if self.known() {
-            return Answer::Value(longest_in(self));
-        }
-        Answer::Refused(Refusal::UnknownSize)
-    }
-
-    // The places that a path takes: `Metacube(130).places()` is 14.
-    pub fn places(self) -> Answer
-        ensures { answer_told result ≡ fact_told self.0 ((specs.metacube self.0).longest + 1) }
-    {
-        if self.known() {
-            return Answer::Value(longest_in(self) + 1);
-        }
-        Answer::Refused(Refusal::UnknownSize)
+    fn longest_in(self) -> u64 {
+        longest_in(self)
     }
 }
 

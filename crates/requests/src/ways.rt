@@ -23,17 +23,16 @@ pub trait Ways: Facts {
         requires { Between (Self.is_known self) (Self.mesh self) u t }
         ensures { result ≡ next self u t };
 
-    // Whether n places are too few for the route from s to t.
+    // Whether n places are too few for the route from s to t, which arrives.
     fn short(self, s: u64, t: u64, n: usize) -> bool
         requires { Between (Self.is_known self) (Self.mesh self) s t }
-        ensures { result ≡ leb n (hops self s t) };
-
-    // The route arrives, over relays that are linked.
-    ghost arrives: { (x : Self) (s t : ℕ) → Between (Self.is_known x) (Self.mesh x) s t → Routed (Self.mesh x) (next x) s t (hops x s t) };
+        ensures value { result ≡ leb n (hops self s t) }
+        ensures way { Routed (Self.mesh self) (next self) s t (hops self s t) };
 
     // How many hops it is from s to t: as many as it takes to arrive.
     final fn count(self, s: u64, t: u64) -> usize
-        requires { Between (Self.is_known self) (Self.mesh self) s t }
+        requires between { Between (Self.is_known self) (Self.mesh self) s t }
+        requires way { Routed (Self.mesh self) (next self) s t (hops self s t) }
         ensures { result ≡ hops self s t }
     {
         let mut at = s;
@@ -48,6 +47,7 @@ pub trait Ways: Facts {
     // Writes the route from s to t at the front of `out`, and counts its hops.
     final fn walk(self, s: u64, t: u64, out: &mut [u64]) -> usize
         requires between { Between (Self.is_known self) (Self.mesh self) s t }
+        requires way { Routed (Self.mesh self) (next self) s t (hops self s t) }
         requires room { hops self s t < length out.old }
         ensures value { result ≡ hops self s t }
         ensures out_after { out.new ≡ routed (next self) (hops self s t) s t out.old }

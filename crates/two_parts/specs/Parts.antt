@@ -97,3 +97,7 @@ module _ (m b p : ℕ) where
   named-slot-out e h g =
       named-known e
       ∙ ap₂ (λ (x y : Bool). pick (x && y) (relay m b p) (relays m)) (lt-ltb b (blocks m) h) (le-ltb p (slots m) g)
+
+-- of an order that there is no path is longer than 206 hops
+pub short-ways : (m : ℕ) → known m ≡ true → longest m < 207
+short-ways m k = omega (arith, longest-few m (known_bounds m k).1)

@@ -1,10 +1,9 @@
 // The order of a mesh and its facts.
 ghost use Rattle.std.specs.Prelude.{◌≡◌, ◌+◌, ◌≤◌};
-ghost use Rattle.answers.specs.Told.{answer_told};
 ghost use Rattle.two_parts.specs.Two as specs;
-ghost use Rattle.two_parts.specs.Says.{fact_told};
+ghost use Rattle.two_parts.specs.Parts.{short-ways};
 
-use answers::{Answer, Refusal};
+use requests::Facts;
 
 // The order of a mesh: 1 to 5, and the facts that go with it.
 #[derive(Clone, Copy)]
@@ -14,55 +13,31 @@ impl Order {
     pub const LEAST: u64 = 1;
 
     pub const MOST: u64 = 5;
+}
+
+// Of order 3 there are 2048 relays with 4 links each, and the longest path has 42 hops.
+impl Facts for Order {
+    ghost is_known = { λ order. specs.known order.0 };
+
+    ghost mesh = { λ order. specs.two order.0 };
+
+    ghost short = { λ order known. short-ways order.0 known };
 
     // Whether it is an order that is served: 1 to 5.
-    pub fn known(self) -> bool
-        ensures { result ≡ specs.known self.0 }
-    {
-        if self.0 < Self::LEAST {
-            return false;
-        }
-        self.0 <= Self::MOST
+    fn known(self) -> bool {
+        Self::LEAST <= self.0 && self.0 <= Self::MOST
     }
 
-    // How many relays the mesh has: 2048 for order 3.
-    pub fn relays(self) -> Answer
-        ensures { answer_told result ≡ fact_told self.0 (specs.relays self.0) }
-    {
-        if self.known() {
-            return Answer::Value(relays_in(self));
-        }
-        Answer::Refused(Refusal::UnknownSize)
+    fn relays_in(self) -> u64 {
+        relays_in(self)
     }
 
-    // How many links each relay has: 4 for order 3.
-    pub fn links(self) -> Answer
-        ensures { answer_told result ≡ fact_told self.0 (self.0 + 1) }
-    {
-        if self.known() {
-            return Answer::Value(self.0 + 1);
-        }
-        Answer::Refused(Refusal::UnknownSize)
+    fn links_in(self) -> u64 {
+        self.0 + 1
     }
 
-    // The longest path in hops: 42 for order 3.
-    pub fn longest(self) -> Answer
-        ensures { answer_told result ≡ fact_told self.0 (specs.longest self.0) }
-    {
-        if self.known() {
-            return Answer::Value(longest_in(self));
-        }
-        Answer::Refused(Refusal::UnknownSize)
-    }
-
-    // The places that a path takes: 43 for order 3.
-    pub fn places(self) -> Answer
-        ensures { answer_told result ≡ fact_told self.0 (specs.longest self.0 + 1) }
-    {
-        if self.known() {
-            return Answer::Value(longest_in(self) + 1);
-        }
-        Answer::Refused(Refusal::UnknownSize)
+    fn longest_in(self) -> u64 {
+        longest_in(self)
     }
 }
 

@@ -11,16 +11,15 @@ pub hop-at-requires : goal.hop-at-requires
 hop-at-requires g c =
     let a = c.args in
     let v = c.loop-at.invariant in
-    on_way c.requires (g.met.Self.Ways.arrives a.self a.s a.t c.requires) v.bound v.here
+    on_way c.requires.between c.requires.way v.bound v.here
 
 pub loop-at-preserved : goal.loop-at-preserved
 loop-at-preserved g c =
     let a = c.args in
     let next = g.Self.Ways.next a.self in
     let v = c.loop-at.invariant in
-    let way = g.met.Self.Ways.arrives a.self a.s a.t c.requires in
     record {
-      bound = omega (arith, walk-short next a.s a.t (g.Self.Ways.hops a.self a.s a.t) way.arrives v.bound v.here c.loop-at-test.true);
+      bound = omega (arith, walk-short next a.s a.t (g.Self.Ways.hops a.self a.s a.t) c.requires.way.arrives v.bound v.here c.loop-at-test.true);
       here = hop_on next a.s a.t c.loop-at.n v.here c.hop-at.ensures;
     }
 
@@ -28,4 +27,4 @@ pub returns : goal.returns
 returns g c =
     let a = c.args in
     let v = c.loop-at.invariant in
-    walk-all (g.Self.Ways.next a.self) a.s a.t (g.Self.Ways.hops a.self a.s a.t) (g.met.Self.Ways.arrives a.self a.s a.t c.requires).arrives v.bound v.here c.loop-at-test.false
+    walk-all (g.Self.Ways.next a.self) a.s a.t (g.Self.Ways.hops a.self a.s a.t) c.requires.way.arrives v.bound v.here c.loop-at-test.false

@@ -9,10 +9,9 @@ pub hop-at-requires : goal.hop-at-requires
 hop-at-requires g c =
     let a = c.args in
     let v = c.loop-at.invariant in
-    on_way c.requires.between (g.met.Self.Ways.arrives a.self a.s a.t c.requires.between) v.bound v.here
+    on_way c.requires.between c.requires.way v.bound v.here
 
 pub loop-at-preserved : goal.loop-at-preserved
 loop-at-preserved g c =
     let a = c.args in
-    let way = g.met.Self.Ways.arrives a.self a.s a.t c.requires.between in
-    walk_goes_on (g.Self.Ways.next a.self) a.s a.t (g.Self.Ways.hops a.self a.s a.t) way.arrives c.loop-at.invariant c.loop-at-test.true c.hop-at.ensures
+    walk_goes_on (g.Self.Ways.next a.self) a.s a.t (g.Self.Ways.hops a.self a.s a.t) c.requires.way.arrives c.loop-at.invariant c.loop-at-test.true c.hop-at.ensures
