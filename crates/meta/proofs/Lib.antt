@@ -3,3 +3,4 @@ pub mod Cycle
 pub mod Turns
 pub mod Ranks
 pub mod Once
+pub mod Walks

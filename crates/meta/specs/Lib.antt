@@ -3,7 +3,6 @@ pub mod Cycle
 pub mod Next
 pub mod Says
 pub mod Needs
-pub mod Walks
 pub mod Far
 pub mod Unique
 pub mod Cases

@@ -2,7 +2,6 @@
 ghost use Rattle.meta_parts.specs.Meta as metas;
 ghost use Rattle.meta_parts.specs.Sizes.{short-ways};
 ghost use Rattle.meta.specs.Says as says;
-ghost use Rattle.meta.specs.Walks.{plain_arrives};
 
 use crate::steps;
 use meta_parts::Metacube;
@@ -39,8 +38,6 @@ impl Ways for Walked {
     ghost next = { λ walked. says.next walked.0.0 };
 
     ghost hops = { λ walked. says.hops walked.0.0 };
-
-    ghost arrives = { λ walked s t b. plain_arrives walked.0.0 s t b };
 
     fn joined(self, u: u64, v: u64) -> bool {
         meta_parts::joined(self.0, u, v)

@@ -11,7 +11,7 @@ mod ways;
 
 use answers::Refusal;
 pub use facts::Facts;
-pub use ways::Ways;
+pub use ways::{Hops, Ways};
 
 // The first target that is no relay.
 fn out_at(relays: u64, targets: &[u64]) -> Option<usize>
