@@ -1,6 +1,6 @@
 -- Worked cases of metacubes, from the definitions: the links of two relays of size 130 (k 2, m 2), over all 1,024; and plain routes of sizes 66 (k 1, m 2), 129 (k 2, m 1; in the second the
 -- cycle goes round from its last class to its first, in the third all parts agree) and 193 (k 3, m 1). Assumes nothing.
-use Rattle.std.specs.Prelude.{ℕ, zero, suc, ◌+◌, ◌-◌, ◌*◌, ◌^◌, ◌≡◌, refl, Bool, List, [], ◌∷◌}
+use Rattle.std.specs.Prelude.{ℕ, zero, suc, ◌≡◌, refl, List, [], ◌∷◌}
 use Rattle.std.specs.Int.Count.{count_trailing_zeros}
 use Rattle.bits.specs.Bit.{flip}
 use Rattle.bits.specs.Gray.{gray}

@@ -5,7 +5,7 @@ ghost use Rattle.meta.specs.Says as says;
 
 use crate::steps;
 use meta_parts::Metacube;
-use requests::{Facts, Ways};
+use requests::{Facts, Hops, Ways};
 
 #[derive(Clone, Copy)]
 pub struct Walked(pub Metacube);
@@ -34,17 +34,19 @@ impl Facts for Walked {
     }
 }
 
-impl Ways for Walked {
+impl Hops for Walked {
     ghost next = { λ walked. says.next walked.0.0 };
 
     ghost hops = { λ walked. says.hops walked.0.0 };
 
-    fn joined(self, u: u64, v: u64) -> bool {
-        meta_parts::joined(self.0, u, v)
-    }
-
     fn hop(self, u: u64, t: u64) -> u64 {
         steps::hop(self.0, u, t)
+    }
+}
+
+impl Ways for Walked {
+    fn joined(self, u: u64, v: u64) -> bool {
+        meta_parts::joined(self.0, u, v)
     }
 
     fn short(self, s: u64, t: u64, n: usize) -> bool {

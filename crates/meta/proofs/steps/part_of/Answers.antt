@@ -1,5 +1,5 @@
 -- `meta::steps::part_of` meets its contract. Assumes nothing.
-use Rattle.std.proofs.Common.{ℕ, ◌*◌, ◌/◌, ◌%◌, ◌^◌, ap, arith, pow_pos}
+use Rattle.std.proofs.Common.{ℕ, ◌*◌, ◌/◌, ◌%◌, ◌^◌, ap, arith}
 use Rattle.meta_parts.specs.Meta.{part}
 use Rattle.meta.proofs.steps.part_of.Goals as goal
 
