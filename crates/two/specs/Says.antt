@@ -1,12 +1,12 @@
 -- What the routines of the two-level mesh tell: refusals 1, 2, 5, 8 in this order, or the value. A routine that takes a block and a slot tells what
 -- the one that takes a relay's number tells of `named`: a part out of range is a relay out of range.
-use Rattle.std.specs.Prelude.{ℕ, ◌+◌, Bool, false, List, ◌++◌, leb, length, drop}
+use Rattle.std.specs.Prelude.{ℕ, ◌+◌, Bool, false, List, ◌++◌, Result, Ok, Err, leb, length, drop}
 use Rattle.std.proofs.Math.Option.{Option, none, some}
 use Rattle.answers.specs.Told.{Told, tell, leaves}
 use Rattle.answers.specs.Order.{Fault, first, pair_faults, room_faults}
 use Rattle.answers.specs.declared.Refusal.{Refusal}
-use Rattle.two.specs.declared.parts.Place.{Place}
-use Rattle.two.specs.declared.parts.Place.TheVariants.{At, Refused}
+use Rattle.two_parts.specs.declared.parts.Block.{Block}
+use Rattle.two_parts.specs.declared.parts.Slot.{Slot}
 use Rattle.two_parts.specs.Says.{size_faults_in}
 use Rattle.two_parts.specs.Two.{relays, block_of, slot_of, linked}
 use Rattle.two.specs.Next.{next, hops, route}
@@ -20,9 +20,9 @@ abbrev pub pair_against : (m s t : ℕ) (room : Bool) → Option Refusal
 pair_against m s t room = first (pair_faults_in m s t room)
 
 -- block and slot
-abbrev pub place_told : Place → Told (ℕ × ℕ)
-place_told (At b p) = tell none (0, 0) (b.0, p.0)
-place_told (Refused why) = tell (some why) (0, 0) (0, 0)
+abbrev pub place_told : Result (Block × Slot) Refusal → Told (ℕ × ℕ)
+place_told (Ok place) = tell none (0, 0) (place.0.0, place.1.0)
+place_told (Err why) = tell (some why) (0, 0) (0, 0)
 
 -- of a relay alone: relay 0 as the other is never out of range
 abbrev pub split_told : (m r : ℕ) → Told (ℕ × ℕ)

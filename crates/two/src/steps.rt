@@ -1,16 +1,11 @@
 // The next hop.
 ghost use Rattle.std.specs.Prelude.{◌≡◌};
-ghost use Rattle.answers.specs.Told.{answer_told};
-ghost use Rattle.two_parts.specs.Two as specs;
 ghost use Rattle.two.specs.Next as next;
 ghost use Rattle.two.specs.Ordered as order;
 ghost use Rattle.two.specs.Turns as turns;
-ghost use Rattle.two.specs.Says.{next_told};
 ghost use Rattle.two.specs.Needs.{Differ, Slots};
 ghost use Rattle.two_parts.specs.Needs.{Fine};
 
-use crate::parts;
-use answers::{Answer, Checked};
 use two_parts::{Block, Order, Slot};
 
 // The 32 low bits of x in the Gray order: bit i of what comes out is bit i xor (i div 2) of x. That place is i with bit 1 added to bit 0, then 2 to 1, 3 to 2 and
@@ -91,22 +86,4 @@ pub fn hop(order: Order, u: u64, t: u64) -> u64
     let p = Slot(u % slots);
     let h = heading(order, apart, Slot(t % slots));
     u ^ change(order, apart, p, h)
-}
-
-// The relay after source on the way to target, and target itself where they are the same: `next_hop(Order(2), 0, 23)` is 4.
-// Refuses with 1, 2, 5.
-pub fn next_hop(order: Order, source: u64, target: u64) -> Answer
-    ensures { answer_told result ≡ next_told order.0 source target }
-{
-    match parts::checked(order, source, target) {
-        Checked::Fine => Answer::Value(hop(order, source, target)),
-        Checked::Refused(why) => Answer::Refused(why),
-    }
-}
-
-// The same of a source in block b, slot p and a target in block c, slot q; a part out of range is refused 2 or 5.
-pub fn next_hop_parts(order: Order, b: Block, p: Slot, c: Block, q: Slot) -> Answer
-    ensures { answer_told result ≡ next_told order.0 (specs.named order.0 b.0 p.0) (specs.named order.0 c.0 q.0) }
-{
-    next_hop(order, parts::named(order, b, p), parts::named(order, c, q))
 }
