@@ -5,7 +5,8 @@ ghost use Rattle.cube.specs.Route as specs;
 ghost use Rattle.cube.specs.Says.{next_told, routed, route_told, route_leaves};
 
 use crate::Size;
-use answers::{Answer, Checked, Refusal};
+use answers::Refusal;
+use requests::Facts;
 
 // The relay after u on the way to t, and t itself where u is t.
 fn next(u: u64, t: u64) -> u64
@@ -30,12 +31,11 @@ fn walk(s: u64, t: u64, out: &mut [u64]) -> usize
     ensures value { result ≡ specs.hops s t }
     ensures out_after { out.new ≡ routed s t out.old }
 {
+    let k = hops(s, t);
     let mut at = s;
-    let mut k: usize = 0;
-    while at != t {
-        out[k] = at;
+    for i in 0..k {
+        out[i] = at;
         at = next(at, t);
-        k += 1;
     }
     out[k] = at;
     k
@@ -43,28 +43,22 @@ fn walk(s: u64, t: u64, out: &mut [u64]) -> usize
 
 // The next hop from a source towards a target, and the relay itself where it is the target: in `Size(4)` from 0 towards 11
 // it is 1.
-pub fn next_hop(size: Size, source: u64, target: u64) -> Answer
+pub fn next_hop(size: Size, source: u64, target: u64) -> Result<u64, Refusal>
     ensures { answer_told result ≡ next_told size.0 source target }
 {
-    let checked = crate::pair(size, source, target);
-    if let Checked::Refused(why) = checked {
-        return Answer::Refused(why);
-    }
-    Answer::Value(next(source, target))
+    size.pair(source, target)?;
+    Ok(next(source, target))
 }
 
 // Writes the route from a source to a target from place 0 of `out`, and answers its hops: in `Size(4)` from 0 to 11 it
 // writes 0, 1, 3, 11 and answers 3. What stands after the route stays.
-pub fn route(size: Size, source: u64, target: u64, out: &mut [u64]) -> Answer
+pub fn route(size: Size, source: u64, target: u64, out: &mut [u64]) -> Result<u64, Refusal>
     ensures result_value { answer_told result ≡ route_told size.0 source target out.old }
     ensures out_after { out.new ≡ route_leaves size.0 source target out.old }
 {
-    let checked = crate::pair(size, source, target);
-    if let Checked::Refused(why) = checked {
-        return Answer::Refused(why);
-    }
+    size.pair(source, target)?;
     if out.len() <= hops(source, target) {
-        return Answer::Refused(Refusal::NoRoom);
+        return Err(Refusal::NoRoom);
     }
-    Answer::Value(walk(source, target, out) as u64)
+    Ok(walk(source, target, out) as u64)
 }

@@ -1,14 +1,7 @@
--- `cube::plain::walk` meets its contract. The invariant: after k hops the walk is at `at`, and the relays before it are written.
--- The measure is the hops that are left. Assumes nothing.
-use Rattle.std.proofs.Common.{◌-◌, ◌<◌, arith, rules, le_refl, length-set}
-use Rattle.paths.specs.Walk.{Arrives}
-use Rattle.paths.specs.Walked.{Walked, walk_starts, walk-short, walk_goes_on, walk_ends}
-use Rattle.cube.specs.Route.{next, hops, route}
-use Rattle.cube.specs.Routes.{route_arrives}
+-- `cube::plain::walk` meets its contract. The invariant: after i hops the walk is at `at`, and the relays before it are written. Assumes nothing.
+use Rattle.paths.specs.Walked.{Walked}
+use Rattle.cube.specs.Route.{next, hops}
 use Rattle.cube.proofs.plain.walk.Given as goal
 
-abbrev pub invariant-loop-at : goal.invariant-loop-at
-invariant-loop-at l = Walked next l.s l.t (hops l.s l.t) l.initial.out l.out l.at l.k
-
-abbrev pub decreases-loop-at : goal.decreases-loop-at
-decreases-loop-at l = hops l.s l.t - l.k
+abbrev pub invariant-loop-i : goal.invariant-loop-i
+invariant-loop-i l = Walked next l.s l.t (hops l.s l.t) l.initial.out l.out l.at l.i
