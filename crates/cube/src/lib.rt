@@ -6,12 +6,14 @@ mod plain;
 ghost use Rattle.std.specs.Prelude.{◌≡◌, ◌<◌};
 ghost use Rattle.answers.specs.Told.{yes_no_told};
 ghost use Rattle.cube.specs.Cube as specs;
+ghost use Rattle.cube.specs.Route as route;
 ghost use Rattle.cube.specs.Says.{linked_told};
 ghost use Rattle.cube.specs.Sizes.{short};
+ghost use Rattle.cube.specs.Ways.{routed};
 
 use answers::Refusal;
 pub use plain::{next_hop, route};
-use requests::Facts;
+use requests::{Facts, Ways};
 
 // How many dimensions a cube has. Every number can be asked; what is not from 1 to 32 is refused by each routine.
 #[derive(Clone, Copy)]
@@ -49,17 +51,37 @@ impl Facts for Size {
     ghost short = { λ size. short size.0 };
 }
 
+// Two are linked when they differ in one bit, and the next hop corrects the lowest bit that differs.
+impl Ways for Size {
+    ghost next = { λ size. route.next };
+
+    ghost hops = { λ size. route.hops };
+
+    fn joined(self, u: u64, v: u64) -> bool {
+        differ_in_one(u, v)
+    }
+
+    fn hop(self, u: u64, t: u64) -> u64 {
+        plain::next(u, t)
+    }
+
+    fn short(self, s: u64, t: u64, n: usize) -> bool {
+        n <= plain::hops(s, t)
+    }
+
+    ghost arrives = { λ size s t b. routed size.0 s t b };
+}
+
 // Whether two relays are linked: in `Size(4)` 3 and 11 are, 3 and 4 are not, and none is linked to itself.
 pub fn linked(size: Size, source: u64, target: u64) -> Result<bool, Refusal>
     ensures { yes_no_told result ≡ linked_told size.0 source target }
 {
-    size.pair(source, target)?;
-    Ok(differ_in_one(source, target))
+    size.linked(source, target)
 }
 
 // Whether two numbers differ in exactly one bit, as linked relays do: 3 and 11 do.
 pub fn differ_in_one(u: u64, v: u64) -> bool
     ensures { result ≡ specs.linked u v }
 {
-    u64::count_ones(u ^ v) == 1
+    (u ^ v).count_ones() == 1
 }
