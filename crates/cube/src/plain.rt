@@ -35,6 +35,7 @@ pub fn next_hop(size: Size, source: u64, target: u64) -> Result<u64, Refusal>
 
 // Writes the route from a source to a target from place 0 of `out`, and answers its hops: in `Size(4)` from 0 to 11 it
 // writes 0, 1, 3, 11 and answers 3. What stands after the route stays.
+#[tactic(auto, unfolding(crate::specs::Route::route))]
 pub fn route(size: Size, source: u64, target: u64, out: &mut [u64]) -> Result<u64, Refusal>
     ensures result_value { answer_told result ≡ route_told size.0 source target out.old }
     ensures out_after { out.new ≡ route_leaves size.0 source target out.old }
