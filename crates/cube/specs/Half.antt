@@ -1,6 +1,6 @@
 -- The relays of a cube whose bit b is v, for each b and v, are a cube of one dimension less: leaving the bit out (`without`) and putting it in again
 -- (`having`) go between the two, each the other's way back, and keep the links (`half`). Assumes nothing.
-use Rattle.std.specs.Prelude.{ℕ, zero, suc, ◌+◌, ◌*◌, ◌/◌, ◌%◌, ◌^◌, ◌≤◌, ◌<◌, ◌≡◌, refl, Bool, eqb}
+use Rattle.std.specs.Prelude.{ℕ, zero, suc, ◌+◌, ◌*◌, ◌/◌, ◌%◌, ◌^◌, ◌≤◌, ◌<◌, ◌≡◌, eqb}
 use Rattle.std.proofs.Common.{sym, ap, ap₂, ◌∙◌, pow-suc, mod-lt, zero-lt-suc, arith}
 use Rattle.std.specs.Int.Bits.{bit_xor, differ, xor_step}
 use Rattle.std.proofs.lemmas.Nat.{xor_shr}

@@ -6,5 +6,6 @@ pub mod Links
 pub mod Routes
 pub mod Once
 pub mod Sizes
+pub mod Ways
 pub mod Half
 pub mod Unique

@@ -1,14 +1,15 @@
 // The plain route: at each relay the lowest bit in which it differs from the target is corrected.
-ghost use Rattle.std.specs.Prelude.{◌≡◌, ◌<◌, length};
+ghost use Rattle.std.specs.Prelude.{◌≡◌};
 ghost use Rattle.answers.specs.Told.{answer_told};
 ghost use Rattle.cube.specs.Route as specs;
-ghost use Rattle.cube.specs.Says.{next_told, routed, route_told, route_leaves};
+ghost use Rattle.cube.specs.Says.{next_told, route_told, route_leaves};
 
 use crate::Size;
-use answers::{Answer, Checked, Refusal};
+use answers::Refusal;
+use requests::Ways;
 
 // The relay after u on the way to t, and t itself where u is t.
-fn next(u: u64, t: u64) -> u64
+pub fn next(u: u64, t: u64) -> u64
     ensures { result ≡ specs.next u t }
 {
     if u == t {
@@ -18,53 +19,26 @@ fn next(u: u64, t: u64) -> u64
 }
 
 // How many hops the route from s to t has: one for each bit that differs, so 3 from 0 to 11.
-fn hops(s: u64, t: u64) -> usize
+pub fn hops(s: u64, t: u64) -> usize
     ensures { result ≡ specs.hops s t }
 {
-    u64::count_ones(s ^ t) as usize
-}
-
-// Writes the route from s to t at the front of `out`, and counts its hops.
-fn walk(s: u64, t: u64, out: &mut [u64]) -> usize
-    requires { specs.hops s t < length out.old }
-    ensures value { result ≡ specs.hops s t }
-    ensures out_after { out.new ≡ routed s t out.old }
-{
-    let mut at = s;
-    let mut k: usize = 0;
-    while at != t {
-        out[k] = at;
-        at = next(at, t);
-        k += 1;
-    }
-    out[k] = at;
-    k
+    (s ^ t).count_ones() as usize
 }
 
 // The next hop from a source towards a target, and the relay itself where it is the target: in `Size(4)` from 0 towards 11
 // it is 1.
-pub fn next_hop(size: Size, source: u64, target: u64) -> Answer
+pub fn next_hop(size: Size, source: u64, target: u64) -> Result<u64, Refusal>
     ensures { answer_told result ≡ next_told size.0 source target }
 {
-    let checked = crate::pair(size, source, target);
-    if let Checked::Refused(why) = checked {
-        return Answer::Refused(why);
-    }
-    Answer::Value(next(source, target))
+    size.next_hop(source, target)
 }
 
 // Writes the route from a source to a target from place 0 of `out`, and answers its hops: in `Size(4)` from 0 to 11 it
 // writes 0, 1, 3, 11 and answers 3. What stands after the route stays.
-pub fn route(size: Size, source: u64, target: u64, out: &mut [u64]) -> Answer
+#[tactic(auto, unfolding(crate::specs::Route::route))]
+pub fn route(size: Size, source: u64, target: u64, out: &mut [u64]) -> Result<u64, Refusal>
     ensures result_value { answer_told result ≡ route_told size.0 source target out.old }
     ensures out_after { out.new ≡ route_leaves size.0 source target out.old }
 {
-    let checked = crate::pair(size, source, target);
-    if let Checked::Refused(why) = checked {
-        return Answer::Refused(why);
-    }
-    if out.len() <= hops(source, target) {
-        return Answer::Refused(Refusal::NoRoom);
-    }
-    Answer::Value(walk(source, target, out) as u64)
+    size.route(source, target, out)
 }

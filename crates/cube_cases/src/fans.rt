@@ -2,12 +2,13 @@
 // asked, the number and the place that came back, and what the slices then hold, with two places more than were lent.
 ghost use Rattle.std.specs.Prelude.{◌≤◌, ◌<◌, length, IfOk};
 
-use answers::Checked;
+use answers::Refusal;
 use cube::Size;
 use script::{item, put, put_first, run, text};
 use std::io;
 
 // What is asked.
+// Stays: a flag beside the doors, since a line has the doors of a plan too, whatever stands there.
 #[derive(Clone, Copy)]
 struct Request {
     size: Size,
@@ -31,20 +32,17 @@ fn put_request(to: &impl Print, r: Request, targets: &[u64]) -> io::Result<()> {
 }
 
 // Number and place.
-fn put_checked(to: &impl Print, checked: Checked) -> io::Result<()> {
-    match checked {
-        Checked::Fine => {
-            put(to, 0)?;
-            put(to, 0)
-        }
-        Checked::Refused(why) => {
-            put(to, why.number())?;
-            put(to, why.place() as u64)
-        }
-    }
+fn put_checked(to: &impl Print, checked: Result<(), Refusal>) -> io::Result<()> {
+    put(to, answers::number(checked))?;
+    put(to, answers::place(checked) as u64)
 }
 
-fn plan(r: Request, targets: &[u64], places: &mut [u64], counts: &mut [u64]) -> Checked {
+fn plan(
+    r: Request,
+    targets: &[u64],
+    places: &mut [u64],
+    counts: &mut [u64],
+) -> Result<(), Refusal> {
     if r.through {
         return cube_plan::plan_through(r.size, r.source, r.doors, targets, places, counts);
     }
@@ -61,8 +59,8 @@ fn ask(
     places: &mut [u64],
     counts: &mut [u64],
 ) -> io::Result<()> {
-    let a = script::least(room, places.len());
-    let b = script::least(counted, counts.len());
+    let a = room.min(places.len());
+    let b = counted.min(counts.len());
     let shown = a + 2;
     let told = b + 2;
     put_request(to, r, targets)?;
@@ -85,7 +83,7 @@ pub fn case(to: &impl Print, list: &[u64], at: usize, through: bool) -> io::Resu
         size: Size(item(list, at)),
         source: item(list, at + 1),
         doors: item(list, at + 2),
-        through: through,
+        through,
     };
     let targets = run(list, at + 3);
     let next = at + 4 + targets.len();

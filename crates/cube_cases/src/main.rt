@@ -14,16 +14,15 @@ fn case(to: &impl Print, list: &[u64], at: usize) -> io::Result<usize>
     requires { at < length list.now }
     ensures { IfOk result (λ next. at < next) }
 {
-    let what = list[at];
-    if what == 1 {
-        return pairs::case(to, list, at + 1);
+    match list[at] {
+        1 => pairs::case(to, list, at + 1),
+        what => fans::case(to, list, at + 1, what == 3),
     }
-    fans::case(to, list, at + 1, what == 3)
 }
 
 // The cases among the first n numbers.
 fn cases(to: &impl Print, list: &[u64], n: usize) -> io::Result<()> {
-    let end = script::least(n, list.len());
+    let end = n.min(list.len());
     let mut at: usize = 0;
     while at < end {
         at = case(to, list, at)?;

@@ -1,6 +1,6 @@
 -- A fan through doors that is laid out in the slices is a fan of the cube, and keeps to its doors (`laid_out`); where there is no room, 8
 -- (`no_room`). Assumes nothing.
-use Rattle.std.specs.Prelude.{ℕ, zero, suc, ◌+◌, ◌-◌, ◌*◌, ◌^◌, ◌≤◌, ◌<◌, ◌≡◌, refl, Bool, true, false, List, [], ◌∷◌, ltb, length, get_or}
+use Rattle.std.specs.Prelude.{ℕ, zero, suc, ◌+◌, ◌-◌, ◌*◌, ◌^◌, ◌≤◌, ◌<◌, ◌≡◌, refl, Bool, true, false, List, Result, Err, Ok, ⊤, [], ◌∷◌, ltb, length, get_or}
 use Rattle.std.proofs.Common.{sym, ap, ◌∙◌, subst, ⊎_elim, arith, ltb-false}
 use Rattle.std.proofs.Math.Option.{Option, none, some}
 use Rattle.std.specs.Int.Count.{ones}
@@ -11,8 +11,6 @@ use Rattle.scan.specs.Laws.{true-false}
 use Rattle.answers.specs.Order.{refuse}
 use Rattle.answers.specs.declared.Refusal.{Refusal}
 use Rattle.answers.specs.declared.Refusal.TheVariants.{NoRoom}
-use Rattle.answers.specs.declared.Checked.{Checked}
-use Rattle.answers.specs.declared.Checked.TheVariants as checked
 use Rattle.requests.specs.Sound.{Sound}
 use Rattle.requests.specs.Planned.{Planned, not-both, refusal, granted}
 use Rattle.paths.specs.Mesh.{width}
@@ -55,12 +53,12 @@ abbrev pub late : (n : ℕ) (targets places counts : List ℕ) → Option Refusa
 late n targets places counts = refuse (short n targets places counts) NoRoom none
 
 -- what is then given
-pub record Laid (n s shut : ℕ) (targets places counts : List ℕ) (r : Checked) (places₁ counts₁ : List ℕ) : Type 0 where
+pub record Laid (n s shut : ℕ) (targets places counts : List ℕ) (r : Result ⊤ Refusal) (places₁ counts₁ : List ℕ) : Type 0 where
   pub planned : Planned (late n targets places counts) (cube n) s targets places counts r places₁ counts₁
   pub through : late n targets places counts ≡ none → (doors : ℕ) → shut ≡ less (2 ^ n - 1) doors → Through n s doors targets places₁ counts₁
 
 module _ (n s shut : ℕ) (targets places counts : List ℕ) where
-  pub no_room : short n targets places counts ≡ true → Laid n s shut targets places counts (checked.Refused NoRoom) places counts
+  pub no_room : short n targets places counts ≡ true → Laid n s shut targets places counts (Err NoRoom) places counts
   no_room e =
       let o : late n targets places counts ≡ some NoRoom = ap (λ (b : Bool). refuse b NoRoom none) e in
       record { planned = refusal (cube n) s targets places counts o; through = λ z. not-both o z }
@@ -138,7 +136,7 @@ module _ (n s shut : ℕ) (targets places counts : List ℕ) where
                 ⊎_elim (λ (a : (i ≡ i) × (suc p ≡ hops counts₁ i)). a.1) (λ (a : (suc p ≡ 0) × (hops counts₁ i ≡ 0)). absurd (omega (arith, a.0)))
                 (fan.apart i i (suc p) (hops counts₁ i) h h l (omega arith) (e ∙ end ∙ sym (fan.path i h).ends))
 
-      pub laid_out : Laid n s shut targets places counts checked.Fine places₁ counts₁
+      pub laid_out : Laid n s shut targets places counts (Ok tt) places₁ counts₁
       laid_out =
           let o : late n targets places counts ≡ none = ap (λ (b : Bool). refuse b NoRoom none) e in
           record {

@@ -1,6 +1,6 @@
 -- What may be asked after the faults 1 to 7 (`asked`, `asked_through`); and so the planners keep their promise (`plan_laid`, `through_laid`).
 -- Assumes nothing.
-use Rattle.std.specs.Prelude.{ℕ, ◌-◌, ◌^◌, ◌≤◌, ◌<◌, ◌≡◌, refl, Bool, true, false, not, List, ◌++◌, leb, ltb, length}
+use Rattle.std.specs.Prelude.{ℕ, ◌-◌, ◌^◌, ◌≤◌, ◌<◌, ◌≡◌, refl, Bool, true, false, not, List, Result, Err, ⊤, ◌++◌, leb, ltb, length}
 use Rattle.std.proofs.Common.{sym, ap, ◌∙◌, subst, ⊎_elim, arith, ltb-false, leb-false}
 use Rattle.std.proofs.Math.Option.{Option, none, some}
 use Rattle.std.specs.Int.Count.{ones, ones-ones}
@@ -12,8 +12,6 @@ use Rattle.scan.specs.Laws.{true-false}
 use Rattle.answers.specs.Order.{Fault, first, refuse, refuse-none, append-none, append_refused, append-fine, size_faults, request_faults, door_faults, room_faults}
 use Rattle.answers.specs.declared.Refusal.{Refusal}
 use Rattle.answers.specs.declared.Refusal.TheVariants.{UnknownSize, BadDoors}
-use Rattle.answers.specs.declared.Checked.{Checked}
-use Rattle.answers.specs.declared.Checked.TheVariants as checked
 use Rattle.requests.specs.Sound.{Sound, sound}
 use Rattle.requests.specs.Planned.{Planned, not-both, refusal}
 use Rattle.cube.specs.Cube.{known, cube}
@@ -68,10 +66,10 @@ module _ (n s : ℕ) (targets places counts : List ℕ) where
   room = room_faults (short n targets places counts)
 
   -- refused by 1 to 7
-  pub plan_refused : {why : Refusal} → first early ≡ some why → Planned (plan_against n s targets places counts) (cube n) s targets places counts (checked.Refused why) places counts
+  pub plan_refused : {why : Refusal} → first early ≡ some why → Planned (plan_against n s targets places counts) (cube n) s targets places counts (Err why) places counts
   plan_refused e = refusal (cube n) s targets places counts (append_refused early room e)
 
-  pub plan_laid : first early ≡ none → {r : Checked} {places₁ counts₁ : List ℕ} → Laid n s 0 targets places counts r places₁ counts₁
+  pub plan_laid : first early ≡ none → {r : Result ⊤ Refusal} {places₁ counts₁ : List ℕ} → Laid n s 0 targets places counts r places₁ counts₁
       → Planned (plan_against n s targets places counts) (cube n) s targets places counts r places₁ counts₁
   plan_laid e {r} {places₁} {counts₁} a =
       subst (λ (o : Option Refusal). Planned o (cube n) s targets places counts r places₁ counts₁) (sym (append-fine early room e)) a.planned
@@ -81,7 +79,7 @@ module _ (n s : ℕ) (targets places counts : List ℕ) where
     bad = door_faults (bad_doors n doors targets)
 
     pub through_refused : {why : Refusal} → first early ≡ some why
-        → PlannedThrough (through_against n s doors targets places counts) n s doors targets places counts (checked.Refused why) places counts
+        → PlannedThrough (through_against n s doors targets places counts) n s doors targets places counts (Err why) places counts
     through_refused e =
         let o = append_refused early (bad ++ room) e in
         record { planned = refusal (cube n) s targets places counts o; through = λ y. not-both o y }
@@ -89,13 +87,13 @@ module _ (n s : ℕ) (targets places counts : List ℕ) where
     module _ (e : first early ≡ none) where
       -- 11, or what comes after it
       pub through_bad : bad_doors n doors targets ≡ true
-          → PlannedThrough (through_against n s doors targets places counts) n s doors targets places counts (checked.Refused BadDoors) places counts
+          → PlannedThrough (through_against n s doors targets places counts) n s doors targets places counts (Err BadDoors) places counts
       through_bad z =
           let o : through_against n s doors targets places counts ≡ some BadDoors =
           append-fine early (bad ++ room) e ∙ ap (λ (b : Bool). refuse b BadDoors (first room)) z in
           record { planned = refusal (cube n) s targets places counts o; through = λ y. not-both o y }
 
-      pub through_laid : {r : Checked} {places₁ counts₁ : List ℕ} {shut : ℕ} → bad_doors n doors targets ≡ false → shut ≡ less (2 ^ n - 1) doors
+      pub through_laid : {r : Result ⊤ Refusal} {places₁ counts₁ : List ℕ} {shut : ℕ} → bad_doors n doors targets ≡ false → shut ≡ less (2 ^ n - 1) doors
           → Laid n s shut targets places counts r places₁ counts₁
           → PlannedThrough (through_against n s doors targets places counts) n s doors targets places counts r places₁ counts₁
       through_laid {r} {places₁} {counts₁} z is a =

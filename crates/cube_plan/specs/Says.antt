@@ -1,13 +1,12 @@
 -- What the two planners of the cube promise: what stands against a request (`plan_against`, `through_against`), and what comes back and stands in the
 -- lent slices afterwards: `Planned` of the requests, and through doors `PlannedThrough`.
-use Rattle.std.specs.Prelude.{ℕ, ◌*◌, ◌^◌, ◌≤◌, ◌<◌, ◌≡◌, Bool, true, not, List, ◌++◌, leb, ltb, length}
+use Rattle.std.specs.Prelude.{ℕ, ◌*◌, ◌^◌, ◌≤◌, ◌<◌, ◌≡◌, Bool, true, not, List, Result, ⊤, ◌++◌, leb, ltb, length}
 use Rattle.std.proofs.Math.Option.{Option, none}
 use Rattle.std.specs.Int.Count.{ones}
 use Rattle.bits.specs.Bit.{bit, flip}
 use Rattle.scan.specs.Scan.{pick}
 use Rattle.answers.specs.Order.{Fault, first, size_faults, request_faults, door_faults, room_faults}
 use Rattle.answers.specs.declared.Refusal.{Refusal}
-use Rattle.answers.specs.declared.Checked.{Checked}
 use Rattle.paths.specs.Mesh.{width}
 use Rattle.paths.specs.Fan.{relay, hops}
 use Rattle.requests.specs.Planned.{Planned}
@@ -44,6 +43,6 @@ pub record Through (n s doors : ℕ) (targets places counts : List ℕ) : Type 0
       → relay (width (cube n)) places i p ≡ flip s d → p ≡ hops counts i
 
 -- what comes back and what the slices hold, through doors
-pub record PlannedThrough (o : Option Refusal) (n s doors : ℕ) (targets places counts : List ℕ) (r : Checked) (places₁ counts₁ : List ℕ) : Type 0 where
+pub record PlannedThrough (o : Option Refusal) (n s doors : ℕ) (targets places counts : List ℕ) (r : Result ⊤ Refusal) (places₁ counts₁ : List ℕ) : Type 0 where
   pub planned : Planned o (cube n) s targets places counts r places₁ counts₁
   pub through : o ≡ none → Through n s doors targets places₁ counts₁

@@ -12,17 +12,16 @@ ghost use Rattle.requests.specs.Planned.{Planned};
 ghost use Rattle.cube_plan.specs.Says.{early_faults, plan_against, through_against, PlannedThrough};
 ghost use Rattle.cube_plan.specs.Laying.{Asked, Laid};
 
-use answers::{Checked, Refusal};
+use answers::Refusal;
 use cube::Size;
+use requests::Facts;
 
 // What stands against a request whatever its doors and the slices lent: 1 to 7.
-fn request(size: Size, source: u64, targets: &[u64]) -> Checked
+fn request(size: Size, source: u64, targets: &[u64]) -> Result<(), Refusal>
     ensures { against result ≡ first (early_faults size.0 source targets.now) }
 {
-    if size.known() {
-        return requests::request(bits::power(size.0 as u32), size.0, source, targets);
-    }
-    Checked::Refused(Refusal::UnknownSize)
+    size.checked()?;
+    requests::request(size.relays_in(), size.links_in(), source, targets)
 }
 
 // Whether so many places and counts are too few for k paths.
@@ -30,10 +29,7 @@ fn short(n: u64, k: usize, places: usize, counts: usize) -> bool
     requires { (n ≤ 32) × (k ≤ 32) }
     ensures { result ≡ pick (ltb places (k * (n + 2))) true (ltb counts k) }
 {
-    if places < k * (n as usize + 2) {
-        return true;
-    }
-    counts < k
+    places < k * (n as usize + 2) || counts < k
 }
 
 // Whether the cube does not have these doors, or they are fewer than k.
@@ -41,10 +37,7 @@ fn bad_doors(n: u64, doors: u64, k: usize) -> bool
     requires { n ≤ 32 }
     ensures { result ≡ pick (leb (2 ^ n) doors) true (ltb (ones doors) k) }
 {
-    if bits::power(n as u32) <= doors {
-        return true;
-    }
-    (u64::count_ones(doors) as usize) < k
+    bits::power(n as u32) <= doors || (doors.count_ones() as usize) < k
 }
 
 // The doors of the cube but these.
@@ -63,15 +56,15 @@ fn lay(
     targets: &[u64],
     places: &mut [u64],
     counts: &mut [u64],
-) -> Checked
+) -> Result<(), Refusal>
     requires { Asked n source shut targets.now }
     ensures { Laid n source shut targets.now places.old counts.old result places.new counts.new }
 {
     if short(n, targets.len(), places.len(), counts.len()) {
-        return Checked::Refused(Refusal::NoRoom);
+        return Err(Refusal::NoRoom);
     }
     cube_split::fan_through(n as u32, source, shut, targets, places, counts);
-    Checked::Fine
+    Ok(())
 }
 
 // A fan in a cube from the source to the targets, in their order. In the cube of n dimensions path i stands from the place i * (n + 2) on, source
@@ -83,13 +76,10 @@ pub fn plan(
     targets: &[u64],
     places: &mut [u64],
     counts: &mut [u64],
-) -> Checked
+) -> Result<(), Refusal>
     ensures { Planned (plan_against size.0 source targets.now places.old counts.old) (cube size.0) source targets.now places.old counts.old result places.new counts.new }
 {
-    let checked = request(size, source, targets);
-    if let Checked::Refused(why) = checked {
-        return Checked::Refused(why);
-    }
+    request(size, source, targets)?;
     lay(size.0, source, 0, targets, places, counts)
 }
 
@@ -103,15 +93,12 @@ pub fn plan_through(
     targets: &[u64],
     places: &mut [u64],
     counts: &mut [u64],
-) -> Checked
+) -> Result<(), Refusal>
     ensures { PlannedThrough (through_against size.0 source doors targets.now places.old counts.old) size.0 source doors targets.now places.old counts.old result places.new counts.new }
 {
-    let checked = request(size, source, targets);
-    if let Checked::Refused(why) = checked {
-        return Checked::Refused(why);
-    }
+    request(size, source, targets)?;
     if bad_doors(size.0, doors, targets.len()) {
-        return Checked::Refused(Refusal::BadDoors);
+        return Err(Refusal::BadDoors);
     }
     let shut = others(size.0, doors);
     lay(size.0, source, shut, targets, places, counts)

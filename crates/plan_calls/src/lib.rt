@@ -17,8 +17,7 @@ pub fn gustparsley_cube_plan(
 ) -> u64
     ensures { Called (plan_against n source targets.now places.old counts.old) (cube n) source targets.now places.old counts.old result places.new counts.new }
 {
-    let checked = cube_plan::plan(Size(n), source, targets, places, counts);
-    checked.number()
+    answers::number(cube_plan::plan(Size(n), source, targets, places, counts))
 }
 
 // `cube_plan::plan_through` in the cube of n dimensions.
@@ -32,6 +31,5 @@ pub fn gustparsley_cube_plan_through(
 ) -> u64
     ensures { CalledThrough (through_against n source doors targets.now places.old counts.old) n source doors targets.now places.old counts.old result places.new counts.new }
 {
-    let checked = cube_plan::plan_through(Size(n), source, doors, targets, places, counts);
-    checked.number()
+    answers::number(cube_plan::plan_through(Size(n), source, doors, targets, places, counts))
 }

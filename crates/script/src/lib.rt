@@ -4,7 +4,7 @@
 ghost use Rattle.std.specs.Prelude.{ℕ, ◌≡◌, ◌<◌, ◌≤◌, length, take, IfOk, OnErr};
 ghost use Rattle.std.specs.Io.KnownBytes.{Consumes, IsAtEnd};
 
-use answers::{Answer, YesNo};
+use answers::Refusal;
 use std::io;
 use std::io::Read;
 
@@ -128,18 +128,18 @@ pub fn flag(b: bool) -> u64 {
 }
 
 // What is told, after its name: number, place and value.
-pub fn put_answer(to: &impl Print, name: &[u8], a: Answer) -> io::Result<()> {
+pub fn put_answer(to: &impl Print, name: &[u8], a: Result<u64, Refusal>) -> io::Result<()> {
     text(to, name)?;
-    put(to, a.number())?;
-    put(to, a.place() as u64)?;
-    put(to, a.value())
+    put(to, answers::number(a))?;
+    put(to, answers::place(a) as u64)?;
+    put(to, answers::value(a))
 }
 
-pub fn put_yes_no(to: &impl Print, name: &[u8], a: YesNo) -> io::Result<()> {
+pub fn put_yes_no(to: &impl Print, name: &[u8], a: Result<bool, Refusal>) -> io::Result<()> {
     text(to, name)?;
-    put(to, a.number())?;
-    put(to, a.place() as u64)?;
-    put(to, flag(a.yes()))
+    put(to, answers::number(a))?;
+    put(to, answers::place(a) as u64)?;
+    put(to, flag(answers::yes(a)))
 }
 
 // Reads until the input ends or the room is full, and counts what came. A read fails only while there is room: what had come before it is what the reader lost.

@@ -1,5 +1,5 @@
 -- `cube::plain::next` meets its contract. Assumes nothing.
-use Rattle.std.proofs.Common.{◌∙◌, le_refl, rules}
+use Rattle.std.proofs.Common.{◌∙◌, le_refl}
 use Rattle.bits.specs.Laws.{xor-zero-eq}
 use Rattle.cube.specs.Routes.{next-there, next_is}
 use Rattle.cube.proofs.plain.next.Goals as goal
