@@ -9,11 +9,10 @@ ghost use Rattle.cube.specs.Cube as specs;
 ghost use Rattle.cube.specs.Route as route;
 ghost use Rattle.cube.specs.Says.{linked_told};
 ghost use Rattle.cube.specs.Sizes.{short};
-ghost use Rattle.cube.specs.Ways.{routed};
 
 use answers::Refusal;
 pub use plain::{next_hop, route};
-use requests::{Facts, Ways};
+use requests::{Facts, Hops, Ways};
 
 // How many dimensions a cube has. Every number can be asked; what is not from 1 to 32 is refused by each routine.
 #[derive(Clone, Copy)]
@@ -51,25 +50,25 @@ impl Facts for Size {
     ghost short = { λ size. short size.0 };
 }
 
-// Two are linked when they differ in one bit, and the next hop corrects the lowest bit that differs.
-impl Ways for Size {
+// The next hop corrects the lowest bit that differs.
+impl Hops for Size {
     ghost next = { λ size. route.next };
 
     ghost hops = { λ size. route.hops };
 
-    fn joined(self, u: u64, v: u64) -> bool {
-        differ_in_one(u, v)
-    }
-
     fn hop(self, u: u64, t: u64) -> u64 {
         plain::next(u, t)
+    }
+}
+
+impl Ways for Size {
+    fn joined(self, u: u64, v: u64) -> bool {
+        differ_in_one(u, v)
     }
 
     fn short(self, s: u64, t: u64, n: usize) -> bool {
         n <= plain::hops(s, t)
     }
-
-    ghost arrives = { λ size s t b. routed size.0 s t b };
 }
 
 // Whether two relays are linked: in `Size(4)` 3 and 11 are, 3 and 4 are not, and none is linked to itself.

@@ -1,5 +1,5 @@
 -- Assumes nothing.
-use Rattle.std.proofs.Common.{ℕ, ◌<◌, ◌≡◌, ◌∙◌, sym, ap, subst, false, arith}
+use Rattle.std.proofs.Common.{ℕ, ◌<◌, ◌≡◌, ◌∙◌, sym, ap, subst, false}
 use Rattle.std.proofs.lemmas.Result.{err_from_is_err_and}
 use mathlib.Core.Option.{Option, none}
 use Rattle.answers.specs.Told.{tell, told}
@@ -13,7 +13,6 @@ use Rattle.two.specs.Needs.{fine}
 use Rattle.two.specs.Says.{pair_against}
 use Rattle.paths.specs.Ways as ways
 use Rattle.two_distance.specs.Tables.{entry}
-use Rattle.two_distance.specs.Says.{distance_against}
 use Rattle.two_distance.specs.Moved.{distance-near, distance-far, distance-unknown}
 use Rattle.two_distance.proofs.Moved.{distance-entry}
 use Rattle.two_distance.proofs.between.Goals as goal
