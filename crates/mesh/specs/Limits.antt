@@ -100,3 +100,7 @@ module _ (k n : ℕ) (h : planned k n ≡ true) where
 -- two ends that nothing stands against are of a mesh that is planned
 pub ends-links : (k n s t : ℕ) → Ends (kind_of k) n s t → (mesh_of k n).links ≤ most_links
 ends-links k n s t e = planned-links k n (known-planned k n e.known e.planned)
+
+-- of a mesh that there is no path is longer than 206 hops
+pub short-ways : (k n : ℕ) → known k n ≡ true → (mesh_of k n).longest < 207
+short-ways k n h = known_within n k h (λ K. (K.mesh n).longest < 207) (λ K w. omega (arith, w.1)) (λ K w. omega (arith, w.1)) (λ K w. omega (arith, w.1))

@@ -1,10 +1,9 @@
 -- Distances that are told, over every kind: each is the length of a shortest way (`told_shortest`). So it is told the same from either end (`told_same`), 0
 -- exactly between a relay and itself (`told_none`, `told-home`), at most the sum by way of any third relay (`told_by`), at most the hops of any path of a
 -- fan or a bundle (`told-fan`, `told_bundle`), and at most the hops of the plain route that is told (`told-route`). Assumes nothing.
-use Rattle.std.specs.Prelude.{ℕ, ◌+◌, ◌≤◌, ◌<◌, ◌≡◌, refl, Bool, true, false, not, List, ◌++◌, length, get_or}
-use Rattle.std.proofs.Common.{sym, ap, ap₂, ◌∙◌, subst, ltb-false}
+use Rattle.std.specs.Prelude.{ℕ, ◌+◌, ◌≤◌, ◌<◌, ◌≡◌, refl, Bool, true, false, List, ◌++◌, length, get_or}
+use Rattle.std.proofs.Common.{sym, ap, ◌∙◌, subst, ltb-false}
 use Rattle.std.proofs.Math.Option.{Option}
-use Rattle.std.proofs.lemmas.Bool.{not-false}
 use Rattle.scan.specs.Laws.{true-false}
 use Rattle.answers.specs.Order.{first, refuse-none, distance_faults, pair_faults}
 use Rattle.answers.specs.Pairs.{pair_sound, pair-fine}

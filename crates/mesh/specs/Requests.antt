@@ -2,19 +2,17 @@
 -- `request_granted`); what a request is that none of 1 to 7 stands against (`request_fine`), nor 52 where it is to be planned (`plan_fine`); the same of two ends and a bundle's room (`ends-fine`,
 -- `ends_refused`, `ends-short`, `ends_granted`); and room for paths (`room_enough`).
 -- Assumes nothing.
-use Rattle.std.specs.Prelude.{ℕ, ◌*◌, ◌≤◌, ◌<◌, ◌≡◌, refl, Bool, true, false, not, ◌≢◌, List, [], ◌∷◌, ◌++◌, eqb, ltb}
+use Rattle.std.specs.Prelude.{ℕ, ◌*◌, ◌≤◌, ◌<◌, ◌≡◌, refl, Bool, true, false, not, ◌≢◌, List, [], ◌∷◌, ◌++◌, eqb, ltb, Result, Ok, Err, ⊤}
 use Rattle.std.proofs.Common.{sym, ap, ◌∙◌, ltb-false}
 use Rattle.std.proofs.Math.Option.{none, some}
 use Rattle.std.proofs.lemmas.Bool.{not-false, eqb-false}
 use Rattle.scan.specs.Scan.{at, nowhere, pick}
 use Rattle.scan.specs.Laws.{true-false}
-use Rattle.answers.specs.Order.{Fault, fault_at, first, refuse, refuse-at, refuse-none, refused_not, append-none, served_faults, pair_faults, end_faults, request_faults, room_faults}
+use Rattle.answers.specs.Order.{Fault, fault_at, first, refuse-at, refuse-none, refused_not, append-none, served_faults, pair_faults, end_faults, request_faults, room_faults}
 use Rattle.answers.specs.Pairs.{pair_sound, size-known, room_refused, room-short, room_granted}
 use Rattle.answers.specs.Told.{against}
 use Rattle.answers.specs.declared.Refusal.{Refusal}
 use Rattle.answers.specs.declared.Refusal.TheVariants.{UnknownSize, NotServed, TargetIsSource, NoRoom}
-use Rattle.answers.specs.declared.Checked.{Checked}
-use Rattle.answers.specs.declared.Checked.TheVariants as checked
 use Rattle.requests.specs.Sound.{Sound, sound}
 use Rattle.paths.specs.Mesh.{Mesh, width}
 use Rattle.mesh.specs.Kinds.{Kind}
@@ -76,18 +74,18 @@ module _ (K : Kind) (n s : ℕ) (targets : List ℕ) where
       (request_fine r.0, (refuse-none room NoRoom none r.1).0)
 
   -- ---- as code goes through them: what was checked, then room
-  module _ {r : Checked} (e : against r ≡ request_against K n s targets false) where
-    pub checked_fine : r ≡ checked.Fine → Fine K n s targets
+  module _ {r : Result ⊤ Refusal} (e : against r ≡ request_against K n s targets false) where
+    pub checked_fine : r ≡ Ok tt → Fine K n s targets
     checked_fine f = request_fine (sym e ∙ ap against f)
 
-    pub request_refused : {why : Refusal} (room : Bool) → r ≡ checked.Refused why → some why ≡ request_against K n s targets room
+    pub request_refused : {why : Refusal} (room : Bool) → r ≡ Err why → some why ≡ request_against K n s targets room
     request_refused room f = room_refused early room e f
 
     -- the flag is what code has of the want of room
-    pub request_short : {flag room : Bool} → r ≡ checked.Fine → flag ≡ room → flag ≡ true → some NoRoom ≡ request_against K n s targets room
+    pub request_short : {flag room : Bool} → r ≡ Ok tt → flag ≡ room → flag ≡ true → some NoRoom ≡ request_against K n s targets room
     request_short {flag} {room} f w t = room-short early room e f w t
 
-    pub request_granted : {flag room : Bool} → r ≡ checked.Fine → flag ≡ room → flag ≡ false → none ≡ request_against K n s targets room
+    pub request_granted : {flag room : Bool} → r ≡ Ok tt → flag ≡ room → flag ≡ false → none ≡ request_against K n s targets room
     request_granted {flag} {room} f w t = room_granted early room e f w t
 
 -- ---- two ends, and room for the bundle between them
@@ -123,17 +121,17 @@ module _ (K : Kind) (n s t : ℕ) where
       (ends-fine r.0, (refuse-none room NoRoom none r.1).0)
 
   -- ---- as code goes through them: what was checked, then room
-  module _ {r : Checked} (e : against r ≡ bundle_against K n s t false) where
-    pub checked_ends : r ≡ checked.Fine → Ends K n s t
+  module _ {r : Result ⊤ Refusal} (e : against r ≡ bundle_against K n s t false) where
+    pub checked_ends : r ≡ Ok tt → Ends K n s t
     checked_ends f = ends-fine (sym e ∙ ap against f)
 
-    pub ends_refused : {why : Refusal} (room : Bool) → r ≡ checked.Refused why → some why ≡ bundle_against K n s t room
+    pub ends_refused : {why : Refusal} (room : Bool) → r ≡ Err why → some why ≡ bundle_against K n s t room
     ends_refused room f = room_refused ends_early room e f
 
-    pub ends-short : {flag room : Bool} → r ≡ checked.Fine → flag ≡ room → flag ≡ true → some NoRoom ≡ bundle_against K n s t room
+    pub ends-short : {flag room : Bool} → r ≡ Ok tt → flag ≡ room → flag ≡ true → some NoRoom ≡ bundle_against K n s t room
     ends-short {flag} {room} f w t = room-short ends_early room e f w t
 
-    pub ends_granted : {flag room : Bool} → r ≡ checked.Fine → flag ≡ room → flag ≡ false → none ≡ bundle_against K n s t room
+    pub ends_granted : {flag room : Bool} → r ≡ Ok tt → flag ≡ room → flag ≡ false → none ≡ bundle_against K n s t room
     ends_granted {flag} {room} f w t = room_granted ends_early room e f w t
 
 -- ---- room for paths

@@ -9,8 +9,6 @@ use Rattle.paths.specs.Mesh.{Mesh, width}
 use Rattle.paths.specs.Ways.{distance}
 use Rattle.paths.specs.Bundles.{longer}
 use Rattle.mesh.specs.Kinds.{Kind}
-use Rattle.mesh.specs.declared.Fact.{Fact}
-use Rattle.mesh.specs.declared.Fact.TheVariants.{Relays, Links, Longest, Places, BundlePlaces}
 
 -- ---- what may stand against a size, a pair, a request: the faults of each routine, in its order
 
@@ -66,13 +64,6 @@ abbrev pub bundle_short : (m : Mesh) (places counts : ℕ) → Bool
 bundle_short m = short (longer m) m.links
 
 -- ---- what is told
-
-abbrev pub fact_of : Fact → Mesh → ℕ
-fact_of Relays m = m.relays
-fact_of Links m = m.links
-fact_of Longest m = m.longest
-fact_of Places m = width m
-fact_of BundlePlaces m = width (longer m)
 
 -- a fact of a size
 abbrev pub fact_told : (k : Kind) (n : ℕ) (fact : ℕ) → Told ℕ

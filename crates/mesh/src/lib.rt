@@ -8,17 +8,17 @@ ghost use Rattle.std.specs.Prelude.{◌≡◌, true};
 ghost use Rattle.answers.specs.Told.{answer_told};
 ghost use Rattle.paths.specs.Mesh.{width};
 ghost use Rattle.paths.specs.Bundles.{longer};
-ghost use Rattle.cube.specs.Cube as cubes;
-ghost use Rattle.two_parts.specs.Two as twos;
-ghost use Rattle.meta_parts.specs.Meta as metas;
 ghost use Rattle.mesh.specs.Kinds as specs;
-ghost use Rattle.mesh.specs.Says.{fact_of, fact_told};
+ghost use Rattle.mesh.specs.Limits.{short-ways};
+ghost use Rattle.mesh.specs.Says.{fact_told};
+ghost use Rattle.mesh.specs.Shaped.{Shaped};
 
-use answers::{Answer, Refusal};
+use answers::Refusal;
 use cube::Size;
 use meta::Metacube;
 pub use pairs::{distance, joined, linked, near, next_hop, route};
 pub use requested::{bundle_short, ends, plan_request, request, short, unplanned};
+use requests::Facts;
 use two::Order;
 
 // A kind, 1 the plain cube, 2 the two-level mesh and 3 the metacube, and a size: the dimensions of a cube, the order of a two-level mesh, of a metacube k·64 + m. Every
@@ -41,14 +41,12 @@ pub const MOST_PLACES: usize = 1242;
 
 pub const MOST_BYTES: usize = 9916;
 
-// What is asked of a size.
+// The size of a mesh by its kind.
 #[derive(Clone, Copy)]
-enum Fact {
-    Relays,
-    Links,
-    Longest,
-    Places,
-    BundlePlaces,
+pub enum Shape {
+    Cube(Size),
+    Two(Order),
+    Meta(Metacube),
 }
 
 impl Mesh {
@@ -58,20 +56,20 @@ impl Mesh {
 
     pub const META: u64 = 3;
 
-    // Whether there is such a mesh: of kind 2 and size 5 there is one, of size 6 there is none.
-    pub fn known(self) -> bool
-        ensures { result ≡ specs.known self.kind self.size }
+    // The size by the kind, and none where the kind is no kind's number.
+    pub fn shape(self) -> Option<Shape>
+        ensures { Shaped result self.kind self.size }
     {
         if self.kind == Self::CUBE {
-            return Size(self.size).known();
+            return Some(Shape::Cube(Size(self.size)));
         }
         if self.kind == Self::TWO {
-            return Order(self.size).known();
+            return Some(Shape::Two(Order(self.size)));
         }
         if self.kind == Self::META {
-            return Metacube(self.size).known();
+            return Some(Shape::Meta(Metacube(self.size)));
         }
-        false
+        None
     }
 
     // Whether there is such a mesh, and the planners, distance and sheets serve it: of kinds 1 and 2.
@@ -84,109 +82,59 @@ impl Mesh {
         self.known()
     }
 
-    // How many relays: of kind 2 and size 3 there are 2,048.
-    pub fn relays(self) -> Answer
-        ensures { answer_told result ≡ fact_told (specs.kind_of self.kind) self.size (specs.mesh_of self.kind self.size).relays }
-    {
-        self.fact(Fact::Relays)
-    }
-
-    // How many links each relay has: of kind 2 and size 3 it has 4.
-    pub fn links(self) -> Answer
-        ensures { answer_told result ≡ fact_told (specs.kind_of self.kind) self.size (specs.mesh_of self.kind self.size).links }
-    {
-        self.fact(Fact::Links)
-    }
-
-    // The hops of the longest path: of kind 2 and size 3 they are 42.
-    pub fn longest(self) -> Answer
-        ensures { answer_told result ≡ fact_told (specs.kind_of self.kind) self.size (specs.mesh_of self.kind self.size).longest }
-    {
-        self.fact(Fact::Longest)
-    }
-
-    // The places that a path takes: of kind 2 and size 3 it takes 43.
-    pub fn places(self) -> Answer
-        ensures { answer_told result ≡ fact_told (specs.kind_of self.kind) self.size (width (specs.mesh_of self.kind self.size)) }
-    {
-        self.fact(Fact::Places)
-    }
-
     // The places that a path of a bundle takes: of kind 2 and size 3 it takes 44.
-    pub fn bundle_places(self) -> Answer
+    pub fn bundle_places(self) -> Result<u64, Refusal>
         ensures { answer_told result ≡ fact_told (specs.kind_of self.kind) self.size (width (longer (specs.mesh_of self.kind self.size))) }
     {
-        self.fact(Fact::BundlePlaces)
+        self.checked()?;
+        Ok(bundle_places_in(self))
     }
+}
 
-    fn fact(self, which: Fact) -> Answer
-        ensures { answer_told result ≡ fact_told (specs.kind_of self.kind) self.size (fact_of which (specs.mesh_of self.kind self.size)) }
-    {
-        if self.known() {
-            Answer::Value(fact_in(self, which))
-        } else {
-            Answer::Refused(Refusal::UnknownSize)
+// Of kind 2 and size 5 there is a mesh, of size 6 there is none. Of kind 2 and size 3 there are 2,048 relays with 4 links each, the longest path has 42 hops, and
+// takes 43 places.
+impl Facts for Mesh {
+    ghost is_known = { λ m. specs.known m.kind m.size };
+
+    ghost mesh = { λ m. specs.mesh_of m.kind m.size };
+
+    ghost short = { λ m known. short-ways m.kind m.size known };
+
+    fn known(self) -> bool {
+        match self.shape() {
+            Some(Shape::Cube(size)) => size.known(),
+            Some(Shape::Two(order)) => order.known(),
+            Some(Shape::Meta(size)) => size.known(),
+            None => false,
         }
     }
-}
 
-// A fact of a cube.
-fn cube_fact(n: u64, which: Fact) -> u64
-    requires { cubes.known n ≡ true }
-    ensures { result ≡ fact_of which (cubes.cube n) }
-{
-    match which {
-        Fact::Relays => bits::power(n as u32),
-        Fact::Links => n,
-        Fact::Longest => n + 1,
-        Fact::Places => n + 2,
-        Fact::BundlePlaces => n + 3,
+    fn relays_in(self) -> u64 {
+        match self.shape() {
+            Some(Shape::Cube(size)) => size.relays_in(),
+            Some(Shape::Two(order)) => order.relays_in(),
+            Some(Shape::Meta(size)) => size.relays_in(),
+            None => 0,
+        }
     }
-}
 
-// A fact of a two-level mesh.
-fn two_fact(m: u64, which: Fact) -> u64
-    requires { twos.known m ≡ true }
-    ensures { result ≡ fact_of which (twos.two m) }
-{
-    match which {
-        Fact::Relays => two_parts::relays_in(Order(m)),
-        Fact::Links => m + 1,
-        Fact::Longest => two_parts::longest_in(Order(m)),
-        Fact::Places => two_parts::longest_in(Order(m)) + 1,
-        Fact::BundlePlaces => two_parts::longest_in(Order(m)) + 2,
+    fn links_in(self) -> u64 {
+        match self.shape() {
+            Some(Shape::Cube(size)) => size.links_in(),
+            Some(Shape::Two(order)) => order.links_in(),
+            Some(Shape::Meta(size)) => size.links_in(),
+            None => 0,
+        }
     }
-}
 
-// A fact of a metacube.
-fn meta_fact(n: u64, which: Fact) -> u64
-    requires { metas.known n ≡ true }
-    ensures { result ≡ fact_of which (metas.metacube n) }
-{
-    match which {
-        Fact::Relays => meta_parts::relays_in(Metacube(n)),
-        Fact::Links => meta_parts::links_in(Metacube(n)),
-        Fact::Longest => meta_parts::longest_in(Metacube(n)),
-        Fact::Places => meta_parts::longest_in(Metacube(n)) + 1,
-        Fact::BundlePlaces => meta_parts::longest_in(Metacube(n)) + 2,
+    fn longest_in(self) -> u64 {
+        match self.shape() {
+            Some(Shape::Cube(size)) => size.longest_in(),
+            Some(Shape::Two(order)) => order.longest_in(),
+            Some(Shape::Meta(size)) => size.longest_in(),
+            None => 0,
+        }
     }
-}
-
-// A fact of a mesh that there is.
-fn fact_in(mesh: Mesh, which: Fact) -> u64
-    requires { specs.known mesh.kind mesh.size ≡ true }
-    ensures { result ≡ fact_of which (specs.mesh_of mesh.kind mesh.size) }
-{
-    if mesh.kind == Mesh::CUBE {
-        return cube_fact(mesh.size, which);
-    }
-    if mesh.kind == Mesh::TWO {
-        return two_fact(mesh.size, which);
-    }
-    if mesh.kind == Mesh::META {
-        return meta_fact(mesh.size, which);
-    }
-    0
 }
 
 // The facts as plain numbers, for callers that know the mesh.
@@ -194,26 +142,26 @@ pub fn relays_in(mesh: Mesh) -> u64
     requires { specs.known mesh.kind mesh.size ≡ true }
     ensures { result ≡ (specs.mesh_of mesh.kind mesh.size).relays }
 {
-    fact_in(mesh, Fact::Relays)
+    mesh.relays_in()
 }
 
 pub fn links_in(mesh: Mesh) -> u64
     requires { specs.known mesh.kind mesh.size ≡ true }
     ensures { result ≡ (specs.mesh_of mesh.kind mesh.size).links }
 {
-    fact_in(mesh, Fact::Links)
+    mesh.links_in()
 }
 
 pub fn places_in(mesh: Mesh) -> u64
     requires { specs.known mesh.kind mesh.size ≡ true }
     ensures { result ≡ width (specs.mesh_of mesh.kind mesh.size) }
 {
-    fact_in(mesh, Fact::Places)
+    mesh.longest_in() + 1
 }
 
 pub fn bundle_places_in(mesh: Mesh) -> u64
     requires { specs.known mesh.kind mesh.size ≡ true }
     ensures { result ≡ width (longer (specs.mesh_of mesh.kind mesh.size)) }
 {
-    fact_in(mesh, Fact::BundlePlaces)
+    mesh.longest_in() + 2
 }

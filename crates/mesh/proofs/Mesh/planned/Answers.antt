@@ -1,5 +1,5 @@
 -- `mesh::Mesh::planned` meets its contract: metacubes are not planned, every other mesh is. Assumes nothing.
-use Rattle.std.proofs.Common.{sym, ap, ◌∙◌, Bool, false, arith, rules}
+use Rattle.std.proofs.Common.{sym, ◌∙◌, arith}
 use Rattle.mesh.specs.Laws.{planned-none, known-served}
 use Rattle.mesh.proofs.Mesh.planned.Goals as goal
 

@@ -1,5 +1,4 @@
 -- `mesh::requested::unplanned` meets its contract. Assumes nothing.
-use Rattle.std.proofs.Common.{rules}
 use Rattle.mesh.specs.Laws.{unserved_known, unserved_unknown}
 use Rattle.mesh.proofs.requested.unplanned.Goals as goal
 
