@@ -47,10 +47,8 @@ fn begin(targets: &[u64], w: usize, grid: &mut [u64])
     requires { (2 ≤ w) × (length targets.now * w ≤ length grid.old) }
     ensures { Begun w targets.now (length targets.now) grid.old grid.new }
 {
-    let mut j: usize = 0;
-    while j < targets.len() {
-        cube_rows::start(grid, w, j, targets[j]);
-        j += 1;
+    for (j, t) in targets.iter().enumerate() {
+        cube_rows::start(grid, w, j, *t);
     }
 }
 
@@ -71,10 +69,8 @@ fn spread(s: u64, w: usize, k: usize, places: &mut [u64], counts: &mut [u64])
     requires { ((j : ℕ) → j < k → get_or places.old (j * w) 0 < w) × (k * w ≤ length places.old) × (k ≤ length counts.old) }
     ensures { Spread s w k places.old places.new counts.old counts.new }
 {
-    let mut j: usize = 0;
-    while j < k {
+    for j in 0..k {
         counts[j] = settle(s, w, j * w, places);
-        j += 1;
     }
 }
 
