@@ -8,6 +8,14 @@ pub overflow_add-n : goal.overflow_add-n
 unfolding hops
 overflow_add-n c = omega (arith, c.requires.held.row.short, c.requires.held.row.room, c.well_formed)
 
+pub relay-u-requires : goal.relay-u-requires
+unfolding hops
+relay-u-requires c = omega (arith, c.requires.held.row.short, c.requires.held.row.room)
+
+pub relay-v-requires : goal.relay-v-requires
+unfolding hops
+relay-v-requires c = omega (arith, c.requires.held.row.short, c.requires.held.row.room)
+
 pub loop-p-preserved : goal.loop-p-preserved
 loop-p-preserved c =
     let a = c.args in
