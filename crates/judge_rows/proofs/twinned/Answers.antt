@@ -1,25 +1,20 @@
--- `judge_rows::twinned` meets its contract: of a fan no path is a twin, of a bundle a bare link is one of every other. Assumes nothing.
-use Rattle.std.proofs.Common.{sym, ◌∙◌, arith, rules}
-use Rattle.judge_rows.specs.Laws.{twinned-fan, twinned_elsewhere, twinned-longer, twinned_bare}
+use Rattle.std.proofs.Common.{rules, ◌≡◌, ℕ, ◌+◌, ◌-◌, ◌*◌, ◌≤◌, ◌<◌, length, ◌/◌, ◌%◌, Bool, true, false, nat_eq, nat_lt, List, [], ◌∷◌, ◌++◌, slice_index_or, slice_set, bit_and, bit_or, Fits, w8, w32, w64, Bor, MutBor}
+use Rattle.scan.specs.Scan.{nowhere, seek, any, spot_of}
+use Rattle.paths.specs.Fan as fan
+use Rattle.paths.specs.Finding as finding
+use Rattle.judge_rows.specs.Rules.{rules_of}
+use Rattle.judge_rows.specs.Needs.{Row, Laid, Step, Held, After}
+use Rattle.judge_rows.specs.Looked.{Looked}
 use Rattle.judge_rows.proofs.twinned.Goals as goal
 
+-- src/lib.rt:97:1
 pub returns-in-Fan : goal.returns-in-Fan
-returns-in-Fan c = let a = c.args in twinned-fan a.rules a.counts.now a.i a.p c.in-Fan.is
+returns-in-Fan c = ?
 
-pub returns-then-p-ne1 : goal.returns-then-p-ne1
-returns-then-p-ne1 c =
-    let a = c.args in
-    twinned_elsewhere a.rules a.counts.now a.i a.p c.in_default.is c.if-p-ne1.true
+-- src/lib.rt:97:1
+pub returns-then-eq : goal.returns-then-eq
+returns-then-eq c = ?
 
-pub returns-then-h-ne1 : goal.returns-then-h-ne1
-returns-then-h-ne1 c =
-    let a = c.args in
-    twinned-longer a.rules a.counts.now a.i a.p c.in_default.is (λ e. c.if-h-ne1.true (c.requires.1 ∙ e))
-
-pub among-requires : goal.among-requires
-among-requires c = omega (arith, c.requires.0)
-
-pub returns : goal.returns
-returns c =
-    let a = c.args in
-    twinned_bare a.rules a.counts.now a.i a.p c.in_default.is c.if-p-ne1.false (sym c.requires.1 ∙ c.if-h-ne1.false) c.among.ensures
+-- src/lib.rt:97:1
+pub returns-else-eq : goal.returns-else-eq
+returns-else-eq c = ?
