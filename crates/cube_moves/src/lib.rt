@@ -9,11 +9,36 @@ ghost use Rattle.cube_math.specs.Loops.{Sorting};
 ghost use Rattle.cube_math.specs.Choose.{Chosen};
 ghost use Rattle.cube_math.specs.Request.{Request, Settled};
 ghost use Rattle.cube_rows.specs.Grid.{hops, target, Rows, New};
+ghost use Rattle.std.specs.Iterator.{at_most};
+ghost use Rattle.cube_moves.specs.Turn.{Turn};
 ghost use Rattle.cube_moves.specs.Sort.{Doored, SortStep};
 ghost use Rattle.cube_moves.specs.Lone.{Open, Ended, Lone, Alone};
 ghost use Rattle.cube_moves.specs.Cut.{Like, Unlike, Kept, HomeOf, Parting, Marked, Beside, StoodIn};
 ghost use Rattle.cube_moves.specs.Halves.{Divided};
 ghost use Rattle.cube_moves.specs.Bring.{Ready, Turns, Homes, Fetched};
+
+// ---- sets of rows
+
+// The members of a set of rows, the lowest first, each with its number below 64.
+#[derive(Drop)]
+struct Members(u64);
+
+impl Iterator for Members {
+    type Item = u32;
+
+    ghost next_gives = { λ s r t. Turn s.0 r t.0 };
+
+    ghost remaining = { λ s. at_most (ones s.0) };
+
+    fn next(&mut self) -> Option<u32> {
+        if self.0 == 0 {
+            return None;
+        }
+        let j = bits::lowest(self.0);
+        self.0 = bits::flip(self.0, j);
+        Some(j)
+    }
+}
 
 // ---- targets behind open doors
 
@@ -42,10 +67,7 @@ fn sort_one(free: u64, s: u64, left: u64, more: u64, t: u64, j: u32) -> Sorted
 {
     let d = door(s, cube_rows::less(free, more), t);
     if d == 0 {
-        return Sorted {
-            left: left,
-            more: more,
-        };
+        return Sorted { left, more };
     }
     Sorted {
         left: bits::flip(left, j),
@@ -60,19 +82,13 @@ pub fn sort(free: u64, s: u64, shut: u64, m: u64, w: usize, grid: &[u64]) -> Sor
 {
     let mut left = m;
     let mut more = shut;
-    let mut todo = m;
-    while todo != 0 {
-        let j = bits::lowest(todo);
+    for j in Members(m) {
         let t = cube_rows::target(grid, w, j as usize);
         let r = sort_one(free, s, left, more, t, j);
         left = r.left;
         more = r.more;
-        todo = bits::flip(todo, j);
     }
-    Sorted {
-        left: left,
-        more: more,
-    }
+    Sorted { left, more }
 }
 
 // ---- one path
@@ -137,11 +153,8 @@ fn alike(m: u64, f: u64, mask: u64, w: usize, grid: &[u64]) -> u64
     ensures { Chosen (Like (target w grid.now) f mask) (Unlike (target w grid.now) f mask) m result }
 {
     let mut r = 0;
-    let mut todo = m;
-    while todo != 0 {
-        let j = bits::lowest(todo);
+    for j in Members(m) {
         r = keep(r, j, (cube_rows::target(grid, w, j as usize) ^ f) & mask);
-        todo = bits::flip(todo, j);
     }
     r
 }
@@ -185,11 +198,8 @@ fn beside(rest: u64, f: u64, shut: u64, m: u64, w: usize, grid: &[u64]) -> u32
     ensures { Beside rest f shut m (target w grid.now) result }
 {
     let mut taken = shut;
-    let mut todo = m;
-    while todo != 0 {
-        let j = bits::lowest(todo);
+    for j in Members(m) {
         taken = mark(taken, f ^ cube_rows::target(grid, w, j as usize));
-        todo = bits::flip(todo, j);
     }
     bits::lowest(cube_rows::less(rest, taken))
 }
@@ -233,12 +243,12 @@ pub fn divide(free: u64, s: u64, shut: u64, m: u64, w: usize, grid: &mut [u64]) 
     let home = home_of(far, f, free, shut, b, w, grid);
     stand_in(rest, f, low, far, home, w, grid);
     Cut {
-        b: b,
-        rest: rest,
-        f: f,
-        low: low,
-        far: far,
-        home: home,
+        b,
+        rest,
+        f,
+        low,
+        far,
+        home,
     }
 }
 
@@ -283,7 +293,7 @@ fn bring_first(b: u32, f: u64, shut: u64, far: u64, home: u64, w: usize, grid: &
         let used = bring_home(b, f, h as usize, w, grid);
         return Taken {
             todo: bits::flip(far, h),
-            used: used,
+            used,
         };
     }
     if bits::bit(shut, b) {
@@ -303,12 +313,9 @@ pub fn bring(b: u32, f: u64, shut: u64, far: u64, home: u64, w: usize, grid: &mu
     ensures { Fetched b f shut far home w grid.old grid.new 0 result }
 {
     let t = bring_first(b, f, shut, far, home, w, grid);
-    let mut todo = t.todo;
     let mut used = t.used;
-    while todo != 0 {
-        let j = bits::lowest(todo);
-        used = used | bring_one(b, f, j as usize, w, grid);
-        todo = bits::flip(todo, j);
+    for j in Members(t.todo) {
+        used |= bring_one(b, f, j as usize, w, grid);
     }
     used
 }
