@@ -11,7 +11,6 @@ ghost use Rattle.judge_rows.specs.Looked.{Looked};
 
 use mesh::Mesh;
 use paths::FILLER;
-use scan::Spot;
 
 // What a set of paths is to be: a fan, with paths from one source to each of its targets, or a bundle, with as many paths as links to one.
 #[derive(Clone, Copy)]
@@ -47,7 +46,7 @@ fn unlinked(rules: Rules, relays: u64, places: &[u64], i: usize, p: usize) -> bo
 }
 
 // The first place of path i, of h hops, that is so.
-pub fn unlinked_at(rules: Rules, places: &[u64], i: usize, h: usize) -> Spot
+pub fn unlinked_at(rules: Rules, places: &[u64], i: usize, h: usize) -> Option<usize>
     requires { Laid rules (length places.now) i h }
     ensures { spot_of result ≡ seek (finding.unlinked (rules_of rules) places.now i) 1 h }
 {
@@ -55,10 +54,10 @@ pub fn unlinked_at(rules: Rules, places: &[u64], i: usize, h: usize) -> Spot
     let relays = mesh::relays_in(mesh);
     for p in 1..h + 1 {
         if unlinked(rules, relays, places, i, p) {
-            return Spot::At(p);
+            return Some(p);
         }
     }
-    Spot::Nowhere
+    None
 }
 
 // Whether x stands on path j.
@@ -140,10 +139,7 @@ fn seen_marked(
         return seen(rules, places, counts, i, p);
     }
     let h = counts[i] as usize;
-    if excepted(rules, h, p) {
-        return twinned(rules, counts, i, h, p);
-    }
-    false
+    excepted(rules, h, p) && twinned(rules, counts, i, h, p)
 }
 
 // The first place of path i, of h hops, that is so. Where there is none, the path's relays are marked too.
@@ -154,7 +150,7 @@ pub fn seen_at(
     counts: &[u64],
     i: usize,
     h: usize,
-) -> Spot
+) -> Option<usize>
     requires after { After rules (length places.now) counts.now i h }
     requires looked { Looked marks.old rules.width places.now counts.now i 0 }
     requires h_value { h ≡ fan.hops counts.now i }
@@ -165,23 +161,23 @@ pub fn seen_at(
     for p in 0..h + 1 {
         let x = relay(w, places, i, p);
         if seen_marked(rules, marks, places, counts, i, p, x) {
-            return Spot::At(p);
+            return Some(p);
         }
         marks::put(marks, x);
     }
-    Spot::Nowhere
+    None
 }
 
 // 25: the first unused place of path i, of h hops, that is not filled.
-pub fn unfilled_at(rules: Rules, places: &[u64], i: usize, h: usize) -> Spot
+pub fn unfilled_at(rules: Rules, places: &[u64], i: usize, h: usize) -> Option<usize>
     requires { Row rules.width (length places.now) i h }
     ensures { spot_of result ≡ seek (finding.unfilled rules.width places.now i) (h + 1) (rules.width - (h + 1)) }
 {
     let w = rules.width;
     for p in h + 1..w {
         if relay(w, places, i, p) != FILLER {
-            return Spot::At(p);
+            return Some(p);
         }
     }
-    Spot::Nowhere
+    None
 }

@@ -1,20 +1,17 @@
-use Rattle.std.proofs.Common.{rules, ◌≡◌, ℕ, ◌+◌, ◌-◌, ◌*◌, ◌≤◌, ◌<◌, length, ◌/◌, ◌%◌, Bool, true, false, nat_eq, nat_lt, List, [], ◌∷◌, ◌++◌, slice_index_or, slice_set, bit_and, bit_or, Fits, w8, w32, w64, Bor, MutBor}
-use Rattle.scan.specs.Scan.{nowhere, seek, any, spot_of}
-use Rattle.paths.specs.Fan as fan
-use Rattle.paths.specs.Finding as finding
-use Rattle.judge_rows.specs.Rules.{rules_of}
-use Rattle.judge_rows.specs.Needs.{Row, Laid, Step, Held, After}
-use Rattle.judge_rows.specs.Looked.{Looked}
+-- `judge_rows::twinned` meets its contract: of a fan no path is a twin, of a bundle a bare link is one of every other. Assumes nothing.
+use Rattle.std.proofs.Common.{sym, ◌∙◌, ap, eqb, ◌&&◌, Bool, arith}
+use Rattle.judge_rows.specs.Laws.{twinned-fan, twinned-not, twinned_bare}
 use Rattle.judge_rows.proofs.twinned.Goals as goal
 
--- src/lib.rt:97:1
 pub returns-in-Fan : goal.returns-in-Fan
-returns-in-Fan c = ?
+returns-in-Fan c = let a = c.args in twinned-fan a.rules a.counts.now a.i a.p c.in-Fan.is
 
--- src/lib.rt:97:1
 pub returns-then-eq : goal.returns-then-eq
-returns-then-eq c = ?
+returns-then-eq c =
+    let a = c.args in
+    twinned_bare a.rules a.counts.now a.i a.p c.in-Bundle.is c.requires.1 (sym c.eq.ensures ∙ c.if-eq.true) c.among.ensures
 
--- src/lib.rt:97:1
 pub returns-else-eq : goal.returns-else-eq
-returns-else-eq c = ?
+returns-else-eq c =
+    let a = c.args in
+    c.if-eq.false ∙ twinned-not a.rules a.counts.now a.i a.p c.in-Bundle.is c.requires.1 (sym c.eq.ensures ∙ c.if-eq.false)
