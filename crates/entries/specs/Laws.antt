@@ -126,9 +126,9 @@ module _ (w : ℕ) (targets places counts : List ℕ) (fails : Failed) (i : ℕ)
 
 -- ---- what is gathered
 
-pub capped-is : {room m : ℕ} → m ≡ min room MOST → m ≡ capped room
+pub capped-is : (room : ℕ) {m : ℕ} → m ≡ min room MOST → m ≡ capped room
 unfolding capped
-capped-is e = e
+capped-is room e = e
 
 pub capped-most : (room : ℕ) {m : ℕ} → m ≡ capped room → m ≤ MOST
 unfolding capped
