@@ -74,6 +74,11 @@ abbrev pub before : Option Flaw → Option Flaw → Option Flaw
 before none rest = rest
 before (some f) rest = some f
 
+-- what stands against a call, or nothing
+abbrev pub flaw_of : {T : Type 0} → Result T Flaw → Option Flaw
+flaw_of (Ok x) = none
+flaw_of (Err f) = some f
+
 -- the one where nothing stands against it, else the other
 abbrev pub settled : {A : Type 0} → Option Flaw → A → A → A
 settled none a b = a

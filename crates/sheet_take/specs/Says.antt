@@ -41,10 +41,6 @@ abbrev pub stride_told : Result ℕ Flaw → Strode
 stride_told (Ok to) = tell_stride none to
 stride_told (Err f) = tell_stride (some f) 0
 
-abbrev pub looked_of : Result (Unit {0}) Flaw → Option Flaw
-looked_of (Ok x) = none
-looked_of (Err f) = some f
-
 -- the paths' rows, their hops and their last relays
 pub record TakenPaths (v : ℕ) (l : List ℕ) (s longest k : ℕ) (places counts targets places₁ counts₁ targets₁ : List ℕ) : Type 0 where
   pub wide : length (places_of s longest (paths_at v l HEAD k)) ≡ k * (longest + 1)

@@ -5,7 +5,8 @@
 ghost use Rattle.std.specs.Prelude.{◌≡◌, ◌+◌, ◌*◌, ◌≤◌, ◌<◌, length};
 ghost use Rattle.std.proofs.lemmas.List.Edits.{sets};
 ghost use Rattle.sheet.specs.Format.{HEAD, head, after, zone_at, zones_at, relays_at, row};
-ghost use Rattle.sheet_take.specs.Says.{looked, wrong_at, tell_stride, stride_told, looked_of, TakenPaths};
+ghost use Rattle.sheet.specs.Says.{flaw_of};
+ghost use Rattle.sheet_take.specs.Says.{looked, wrong_at, tell_stride, stride_told, TakenPaths};
 ghost use Rattle.sheet_take.specs.Needs.{Taken, Zoned};
 
 use paths::FILLER;
@@ -34,7 +35,7 @@ fn look_at(version: u64, longest: u64, bytes: &[u8], at: usize, i: usize) -> Res
 // Looks through k paths of a sheet of that version.
 pub fn look(version: u64, longest: u64, bytes: &[u8], k: usize) -> Result<(), Flaw>
     requires { (HEAD ≤ length bytes.now) × (longest ≤ 206) }
-    ensures { looked_of result ≡ looked version longest bytes.now HEAD 0 k }
+    ensures { flaw_of result ≡ looked version longest bytes.now HEAD 0 k }
 {
     let mut at: usize = 16;
     for i in 0..k {
