@@ -172,6 +172,7 @@ pub fn lone(kind: u64, k: usize) -> bool
 }
 
 // The bytes of a path before its relays: its hops, and in version 2 its zone.
+// Stays: the version is a number, not a `Version`, since `sheet_check::check_in` promises what it tells of any (`check_against`).
 pub fn head_bytes(version: u64) -> usize
     ensures { result ≡ head version }
 {

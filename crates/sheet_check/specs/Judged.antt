@@ -1,14 +1,25 @@
 -- The judge sees the paths of the sheet (`judged-sheet`). Assumes nothing.
-use Rattle.std.specs.Prelude.{ℕ, ◌+◌, ◌*◌, ◌≡◌, false, List, length, take}
-use Rattle.std.proofs.Common.{ap, ap₂, ◌∙◌}
+use Rattle.std.specs.Prelude.{ℕ, ◌+◌, ◌*◌, ◌≡◌, ◌≢◌, Bool, false, List, length, take}
+use Rattle.std.proofs.Common.{sym, ap, ap₂, ◌∙◌, eq-eqb, ne_eqb}
+use Rattle.std.proofs.Math.Option.{none, some}
+use Rattle.scan.specs.Scan.{pick}
 use Rattle.mesh.specs.Kinds.{kind_of}
-use Rattle.judge.specs.Says.{Ruling, judge_told}
+use Rattle.judge.specs.Says.{Ruling, ruling, number_of, path_of, place_of, judge_told}
 use Rattle.sheet.specs.Format.{HEAD, paths_at, places_of, counts_of, targets_of}
 use Rattle.sheet.specs.Lengths.{paths-length, counts-length, targets-length}
 use Rattle.sheet.specs.Pieces.{front}
 use Rattle.sheet_take.specs.Says.{TakenPaths}
-use Rattle.sheet_check.specs.Says.{ruling_of}
+use Rattle.sheet_check.specs.Says.{ruling_of, flaw_in, ruled}
 use Rattle.sheet_check.specs.Needs.{Judgeable}
+
+-- what is told of a ruling
+pub ruled_zero : (r : Ruling) → number_of r ≡ 0 → none ≡ ruled r
+ruled_zero (ruling n i p) e = sym (ap (λ (x : Bool). pick x none (some (flaw_in (ruling n i p)))) (eq-eqb n 0 e))
+
+pub ruled_some : (r : Ruling) (n i p : ℕ) → n ≡ number_of r → i ≡ path_of r → p ≡ place_of r → n ≢ 0 → some (flaw_in (ruling n i p)) ≡ ruled r
+ruled_some (ruling x y z) n i p a b c ne =
+    let same : ruling n i p ≡ ruling x y z = cc in
+    ap (λ (t : Ruling). some (flaw_in t)) same ∙ sym (ap (λ (t : Bool). pick t none (some (flaw_in (ruling x y z)))) (ne_eqb x 0 (λ e. ne (a ∙ e))))
 
 pub judged-sheet : (v : ℕ) (l : List ℕ) (kind size s longest k : ℕ) {places counts targets places₁ counts₁ targets₁ : List ℕ} {r : Ruling}
     → Judgeable v l kind size longest k (length places) (length counts) (length targets) → TakenPaths v l s longest k places counts targets places₁ counts₁ targets₁

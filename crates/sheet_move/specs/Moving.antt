@@ -1,6 +1,6 @@
 -- Why a move keeps its promise: what is wrong with the sheet is told (`move_flawed`), what was checked can be taken (`move_asked`, `zones_asked`) and written (`move_sheeted`), and what is
 -- written is the sheet in the other version (`move_done`). Assumes nothing.
-use Rattle.std.specs.Prelude.{ℕ, ◌+◌, ◌-◌, ◌*◌, ◌≤◌, ◌≡◌, refl, Bool, true, false, List, ◌++◌, ltb, length, drop}
+use Rattle.std.specs.Prelude.{ℕ, ◌+◌, ◌-◌, ◌*◌, ◌≤◌, ◌≡◌, refl, Bool, true, false, List, ◌++◌, ltb, length, drop, Result, Ok, Err}
 use Rattle.std.proofs.Common.{sym, ap, ap₂, ◌∙◌, subst, arith, le-ltb}
 use Rattle.std.proofs.Math.Option.{Option, none, some}
 use Rattle.std.proofs.Math.ListN.{get_or-append}
@@ -19,10 +19,7 @@ use Rattle.sheet.specs.Pieces.{at_front}
 use Rattle.sheet.specs.Says.{flawed, before, settled, reads, reading_told, tell_written}
 use Rattle.sheet.specs.declared.Flaw.{Flaw}
 use Rattle.sheet.specs.declared.Flaw.TheVariants as flaw
-use Rattle.sheet.specs.declared.Reading.{Reading}
-use Rattle.sheet.specs.declared.Reading.TheVariants as reading
-use Rattle.sheet.specs.declared.Written.{Written}
-use Rattle.sheet.specs.declared.Written.TheVariants as written
+use Rattle.sheet.specs.declared.Head.{Head}
 use Rattle.sheet_put.specs.Stray.{stray_in}
 use Rattle.sheet_take.specs.Needs.{Taken, Zoned}
 use Rattle.sheet_take.specs.Says.{TakenPaths, looked}
@@ -53,9 +50,9 @@ reads_check v l p c t e =
     none_before h.0 (flawed-none (lacking l p c t) flaw.NoRoom (paths_against v l) h.1).1
 
 -- what is wrong with the sheet is told of the move
-pub move_flawed : (v u : ℕ) (l out : List ℕ) {f : Flaw} {r : Reading} → r ≡ reading.Refused f → reading_told r ≡ sheet_told l (check_against v l) → Moved v u l out (written.Refused f) out
-move_flawed v u l out {f} e t =
-    let o = told_flaw l (check_against v l) {f = f} (sym (ap reading_told e) ∙ t) in
+pub move_flawed : (v u : ℕ) (l out : List ℕ) (f : Flaw) → reading_told (Err f) ≡ sheet_told l (check_against v l) → Moved v u l out (Err f) out
+move_flawed v u l out f t =
+    let o = told_flaw l (check_against v l) {f = f} t in
     let bytes = moved_bytes v u l in
     record {
       told = ap (λ (x : Option Flaw). tell_written (before x (lay_against v u l out)) (length bytes)) o;
@@ -64,15 +61,21 @@ move_flawed v u l out {f} e t =
 
 -- ---- the sheet was checked
 
-module _ (v : ℕ) (l : List ℕ) {m : code.Mesh} {s k : ℕ} {r : Reading} (e : r ≡ reading.Fan m s k) (t : reading_told r ≡ sheet_told l (check_against v l)) where
-  told : reads 0 0 0 m.kind m.size s k ≡ sheet_told l (check_against v l)
-  told = sym (ap reading_told e) ∙ t
+module _ (v : ℕ) (l : List ℕ) (h : Head) (t : reading_told (Ok h) ≡ sheet_told l (check_against v l)) where
+  abbrev m : code.Mesh
+  m = h.mesh
+
+  abbrev s : ℕ
+  s = h.source
+
+  abbrev k : ℕ
+  k = h.paths
 
   sound : check_against v l ≡ none
-  sound = told_none l (check_against v l) {kind = m.kind} {size = m.size} {s = s} {k = k} told
+  sound = told_none l (check_against v l) {kind = m.kind} {size = m.size} {s = s} {k = k} t
 
   plain : reads 0 0 0 m.kind m.size s k ≡ reads 0 0 0 (kind_at l) (size_at l) (source_at l) (count_at l)
-  plain = told ∙ ap (sheet_told l) sound
+  plain = t ∙ ap (sheet_told l) sound
 
   pub move_bodied : Bodied v l m.kind m.size s k
   move_bodied = record {
@@ -189,7 +192,7 @@ module _ {v : ℕ} {l : List ℕ} {kind size s longest k : ℕ} (places counts t
           ∙ stray_front u (sheet_zones v l ++ lent) (sheet_zones v l) (count_at l)
           (λ i h. get_or-append (sheet_zones v l) lent 0 i (omega (arith, zones_length v l HEAD (count_at l))))
 
-      pub move_done : {out : List ℕ} {r : Written} {out₁ : List ℕ} → PutIn u zones₁ kind size s k places₁ counts₁ out r out₁ → Moved v u l out r out₁
+      pub move_done : {out : List ℕ} {r : Result ℕ Flaw} {out₁ : List ℕ} → PutIn u zones₁ kind size s k places₁ counts₁ out r out₁ → Moved v u l out r out₁
       move_done {out} p =
           let same : (o : Option Flaw) → o ≡ check_against v l → before o (lay_against v u l out) ≡ moves_against v u l out
           = λ o f. ap (λ (x : Option Flaw). before x (lay_against v u l out)) f in

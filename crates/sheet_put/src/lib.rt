@@ -57,7 +57,13 @@ fn put_path(
 {
     octets::put(h as u64, 2, at, out);
     put_zone(version, zone, at + 2, out);
-    put_relays(places, from, h, at + sheet::head_bytes(version.number()), out);
+    put_relays(
+        places,
+        from,
+        h,
+        at + sheet::head_bytes(version.number()),
+        out,
+    );
 }
 
 // Writes k paths with their zones, of w places each, from the place `at` on.

@@ -113,7 +113,11 @@ fn zone_at(version: u64, bytes: &[u8], at: usize) -> u32
     requires { at + head version ≤ length bytes.now }
     ensures { result ≡ zone_at version bytes.now at }
 {
-    if version == 2 { octets::number(bytes, at + 2, 4) as u32 } else { 0 }
+    if version == 2 {
+        octets::number(bytes, at + 2, 4) as u32
+    } else {
+        0
+    }
 }
 
 // Takes the zones of k paths, which were looked through.
