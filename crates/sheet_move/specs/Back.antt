@@ -1,22 +1,22 @@
 -- Main theorem `move_back`: a sheet that was moved to the other version, and is moved back, is the same bytes; so from version 1 to 2 and back (`up_down`), and from 2 to 1 and back
 -- (`down_up`). Moving on from version 1 gives each path zone 0 (`up_zones`). Assumes nothing.
-use Rattle.std.specs.Prelude.{ℕ, ◌*◌, ◌≤◌, ◌≡◌, refl, Bool, true, false, List, [], ◌++◌, ltb, length, get_or, take, drop, Result, Ok, Err}
-use Rattle.std.proofs.Common.{sym, ap, ap₂, ◌∙◌, subst, append-nil, arith, take_at, le-ltb, ltb-false}
-use Rattle.std.proofs.Math.Option.{Option, none, some}
+use Rattle.std.specs.Prelude.{ℕ, ◌*◌, ◌≤◌, ◌≡◌, refl, List, [], ◌++◌, length, get_or, take, drop, Result, Ok}
+use Rattle.std.proofs.Common.{sym, ap, ap₂, ◌∙◌, subst, append-nil, arith, take_at, le-ltb}
+use Rattle.std.proofs.Math.Option.{Option, none}
 use Rattle.std.proofs.Math.Seq.{take-length}
-use Rattle.scan.specs.Scan.{Spot, nowhere}
+use Rattle.scan.specs.Scan.{nowhere}
 use Rattle.octets.specs.Big.{Bytes}
 use Rattle.paths.specs.Mesh.{width}
-use Rattle.sheet.specs.Flaws.{flawed-none, before-none, none-flawed, none_before}
+use Rattle.sheet.specs.Flaws.{before-none, none-flawed, none_before}
 use Rattle.sheet.specs.Format.{VERSION, ZONED, HEAD, sheet_of, kind_at, size_at, count_at, source_at, zones_of, paths_of}
 use Rattle.sheet.specs.Lengths.{zones_length}
-use Rattle.sheet.specs.Says.{flawed, before, settled, tell_written}
+use Rattle.sheet.specs.Says.{settled, tell_written}
 use Rattle.sheet.specs.declared.Flaw.{Flaw}
 use Rattle.sheet.specs.declared.Flaw.TheVariants as flaw
 use Rattle.sheet_put.specs.Stray.{stray_in}
 use Rattle.sheet_write.specs.Says.{stray_flaw}
-use Rattle.sheet_check.specs.Says.{mesh_at, sheet_paths, sheet_targets, sheet_places, sheet_counts, sheet_zones, head_against, paths_against, check_against}
-use Rattle.sheet_read.specs.Says.{lacking, read_against}
+use Rattle.sheet_check.specs.Says.{mesh_at, sheet_paths, sheet_targets, sheet_places, sheet_counts, sheet_zones, check_against}
+use Rattle.sheet_read.specs.Says.{read_against}
 use Rattle.sheet_trips.specs.Accepted.{Accepted, stray_none}
 use Rattle.sheet_trips.specs.Again.{sheet_again}
 use Rattle.sheet_trips.specs.Trips.{wrote_fine}

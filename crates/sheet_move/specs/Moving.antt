@@ -1,32 +1,31 @@
 -- Why a move keeps its promise: what is wrong with the sheet is told (`move_flawed`), what was checked can be taken (`move_asked`, `zones_asked`) and written (`move_sheeted`), and what is
 -- written is the sheet in the other version (`move_done`). Assumes nothing.
-use Rattle.std.specs.Prelude.{ℕ, ◌+◌, ◌-◌, ◌*◌, ◌≤◌, ◌≡◌, refl, Bool, true, false, List, ◌++◌, ltb, length, drop, Result, Ok, Err}
+use Rattle.std.specs.Prelude.{ℕ, ◌+◌, ◌-◌, ◌*◌, ◌≤◌, ◌≡◌, Bool, true, List, ◌++◌, ltb, length, drop, Result, Ok, Err}
 use Rattle.std.proofs.Common.{sym, ap, ap₂, ◌∙◌, subst, arith, le-ltb}
-use Rattle.std.proofs.Math.Option.{Option, none, some}
+use Rattle.std.proofs.Math.Option.{Option, none}
 use Rattle.std.proofs.Math.ListN.{get_or-append}
 use Rattle.std.proofs.lemmas.List.Edits.{sets}
 use Rattle.scan.specs.Scan.{pick, Spot}
 use Rattle.paths.specs.Mesh.{Mesh, width}
-use Rattle.mesh.specs.Kinds.{kind_of, mesh_of, planned}
+use Rattle.mesh.specs.Kinds.{mesh_of}
 use Rattle.mesh.specs.Limits.{most_links, most_places}
-use Rattle.mesh.specs.Says.{short}
 use Rattle.mesh.specs.declared.Mesh as code
 use Rattle.judge.specs.Alike.{enough}
 use Rattle.sheet.specs.Flaws.{flawed-none, before-none, none-flawed, none_before}
-use Rattle.sheet.specs.Format.{HEAD, sheet_of, kind_at, size_at, count_at, source_at, paths_at, zones_at, places_of, counts_of, targets_of}
-use Rattle.sheet.specs.Lengths.{zones_length, paths-length, counts-length, targets-length}
+use Rattle.sheet.specs.Format.{HEAD, sheet_of, kind_at, size_at, count_at, source_at, zones_at}
+use Rattle.sheet.specs.Lengths.{zones_length, paths-length, counts-length}
 use Rattle.sheet.specs.Pieces.{at_front}
 use Rattle.sheet.specs.Says.{flawed, before, settled, reads, reading_told, tell_written}
 use Rattle.sheet.specs.declared.Flaw.{Flaw}
 use Rattle.sheet.specs.declared.Flaw.TheVariants as flaw
 use Rattle.sheet.specs.declared.Head.{Head}
 use Rattle.sheet_put.specs.Stray.{stray_in}
-use Rattle.sheet_take.specs.Needs.{Taken, Zoned}
+use Rattle.sheet_take.specs.Needs.{Zoned}
 use Rattle.sheet_take.specs.Says.{TakenPaths, looked}
 use Rattle.sheet_write.specs.Needs.{Sheeted}
 use Rattle.sheet_write.specs.Says.{stray_flaw, bytes_in, PutIn}
 use Rattle.sheet_write.specs.Writing.{judged_sheeted}
-use Rattle.sheet_check.specs.Bodied.{mesh_is, longest_is, body-known}
+use Rattle.sheet_check.specs.Bodied.{mesh_is, longest_is}
 use Rattle.sheet_check.specs.Checking.{paths_judgeable}
 use Rattle.sheet_check.specs.Needs.{Bodied}
 use Rattle.sheet_check.specs.Says.{mesh_at, sheet_paths, sheet_targets, sheet_places, sheet_counts, sheet_zones, head_against, paths_against, check_against, sheet_told}

@@ -27,7 +27,16 @@ fn moved_in(
     ensures { Moved (version_number from) (version_number to) bytes.now out.old result out.new }
 {
     let was = from.number();
-    sheet_take::take_paths(was, bytes, head.source, longest, head.paths, places, counts, targets);
+    sheet_take::take_paths(
+        was,
+        bytes,
+        head.source,
+        longest,
+        head.paths,
+        places,
+        counts,
+        targets,
+    );
     sheet_take::take_zones(was, bytes, head.paths, zones);
     sheet_write::put_zoned(to, head, places, counts, zones, out)
 }
@@ -49,7 +58,16 @@ fn moved(
     let mut targets = [0u64; mesh::MOST_LINKS];
     let mut zones = [0u32; mesh::MOST_LINKS];
     moved_in(
-        from, to, head, longest, bytes, &mut places, &mut counts, &mut targets, &mut zones, out,
+        from,
+        to,
+        head,
+        longest,
+        bytes,
+        &mut places,
+        &mut counts,
+        &mut targets,
+        &mut zones,
+        out,
     )
 }
 
