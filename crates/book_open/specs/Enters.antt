@@ -102,8 +102,10 @@ module _ {l : List ℕ} {at places n : ℕ} {room : List ℕ} (h : Enterable l a
 
 -- ---- the key as code reads it
 
-pub key-at : (l : List ℕ) {s k : ℕ} → s ≡ number l 8 8 → k ≡ key (get_or l 5 0) (get_or l 6 0) s → k ≡ key_at l
-key-at l e f = f ∙ ap (key (get_or l 5 0) (get_or l 6 0)) e
+-- kind, size and source as code reads them
+module _ (l : List ℕ) {kind size s : ℕ} (ek : kind ≡ get_or l 5 0) (ez : size ≡ get_or l 6 0) (es : s ≡ number l 8 8) where
+  pub key-at : {k : ℕ} → k ≡ key kind size s → k ≡ key_at l
+  key-at f = f ∙ ap₂ (λ (a b : ℕ). key a b s) ek ez ∙ ap (key (get_or l 5 0) (get_or l 6 0)) es
 
-pub keyed_here : {kind size source s : ℕ} → Keyed kind size source → s ≡ source → Keyed kind size s
-keyed_here {kind} {size} k e = subst (Keyed kind size) (sym e) k
+  pub keyed_here : Keyed (get_or l 5 0) (get_or l 6 0) (number l 8 8) → Keyed kind size s
+  keyed_here k = record { some-kind = omega (arith, k.some-kind); few_kinds = omega (arith, k.few_kinds); small = omega (arith, k.small); near = omega (arith, k.near) }

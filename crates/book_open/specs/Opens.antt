@@ -105,13 +105,9 @@ module _ {bytes : List ℕ} {places : ℕ} {was room : List ℕ} {at n : ℕ} (g
       kept = λ b q. no_book refl q;
     }
 
-    module _ (some : size ≡ 0 → ⊥) where
+    module _ (some : 0 < size) where
       pub going_enter : Enterable (drop at bytes) at places n room
-      going_enter = record { piece = omega (arith, positive size some); few = g.few; lent = g.lent; rising = g.rising }
-        where
-          positive : (k : ℕ) → (k ≡ 0 → ⊥) → 0 < k
-          positive zero f = absurd (f refl)
-          positive (suc k) f = omega arith
+      going_enter = record { piece = omega arith; few = g.few; lent = g.lent; rising = g.rising }
 
       begins : Begun at (drop at bytes)
       begins = begun at (drop at bytes) going_enter.piece
@@ -126,7 +122,7 @@ module _ {bytes : List ℕ} {places : ℕ} {was room : List ℕ} {at n : ℕ} (g
         stepped : open_from (length bytes) places 0 bytes []
             ≡ go_on at r (open_from (g.steps - 1) places (at + size) (drop size (drop at bytes)) (enters_index at (drop at bytes) (take n room)))
         stepped =
-            step ∙ ap (λ (b : Bool). pick b (bad at) (go_on at (enters places (drop at bytes) (take n room)) (open_from (g.steps - 1) places (at + size) (drop size (drop at bytes)) (enters_index at (drop at bytes) (take n room))))) (ne_eqb size 0 some)
+            step ∙ ap (λ (b : Bool). pick b (bad at) (go_on at (enters places (drop at bytes) (take n room)) (open_from (g.steps - 1) places (at + size) (drop size (drop at bytes)) (enters_index at (drop at bytes) (take n room))))) (ne_eqb size 0 (λ e. omega arith))
             ∙ ap (λ (x : Entered). go_on at x (open_from (g.steps - 1) places (at + size) (drop size (drop at bytes)) (enters_index at (drop at bytes) (take n room)))) (sym k.told)
 
         pub going_again : r ≡ (Err entered.Again) → Gathered bytes places ((Err (opened.Bad at))) room'
@@ -161,18 +157,18 @@ module _ {bytes : List ℕ} {places : ℕ} {was room : List ℕ} {at n : ℕ} (g
 
 -- ---- told and left
 
-module _ (bytes index room : List ℕ) {places : ℕ} {r : Opened} (ep : places ≡ min 256 (length index)) (g : Gathered bytes places r room) where
+module _ (bytes index room : List ℕ) {places : ℕ} {r : Opened} (ep : places ≡ min (length index) 256) (g : Gathered bytes places r room) where
   all_of : open_from (length bytes) places 0 bytes [] ≡ opening bytes index
   unfolding opening capacity
-  all_of = ap (λ (k : ℕ). open_from (length bytes) k 0 bytes []) ep
+  all_of = ap (λ (k : ℕ). open_from (length bytes) k 0 bytes []) (omega arith)
 
   pub open_told : r ≡ open_says bytes index
   unfolding open_says
   open_told = g.told ∙ ap (opened_by (length bytes)) all_of
 
-  left_by_lem : {is : List ℕ} → is ≡ sets index 0 (take (opened_book r (book_of 0 0)).entries room) → is ≡ open_index bytes index
+  pub open_left : {is : List ℕ} → is ≡ sets index 0 (take (opened_book r (book_of 0 0)).entries room) → is ≡ open_index bytes index
   unfolding open_index
-  left_by_lem {is} e = e ∙ go r g.told (λ b q. (g.kept b q).0) ∙ ap (left_by index) all_of
+  open_left {is} e = e ∙ go r g.told (λ b q. (g.kept b q).0) ∙ ap (left_by index) all_of
     where
       refused : (o : Opening) → ((l : List ℕ) → o ≡ done l → ⊥) → index ≡ left_by index o
       refused (done l) h = absurd (h l refl)
@@ -184,19 +180,6 @@ module _ (bytes index room : List ℕ) {places : ℕ} {r : Opened} (ep : places 
       go (Ok b) t k = ap (left_by index) (sym (k b refl))
       go ((Err (opened.Bad s))) t k = refused (open_from (length bytes) places 0 bytes []) (λ l f. no_book t (ap (opened_by (length bytes)) f))
       go (Err opened.Full) t k = refused (open_from (length bytes) places 0 bytes []) (λ l f. no_book_full t (ap (opened_by (length bytes)) f))
-
-  -- so many places are kept
-  module _ {b₀ : Book} (eb : b₀ ≡ opened_book r (book_of 0 0)) where
-    pub open_few : (b₀.entries ≤ 256) × (b₀.entries ≤ length index)
-    open_few = go r (λ b e. (g.kept b e).1) (ap (λ (b : Book). b.entries) eb)
-      where
-        go : (q : Opened) → ((b : Book) → q ≡ Ok b → b.entries ≤ places) → b₀.entries ≡ (opened_book q (book_of 0 0)).entries → (b₀.entries ≤ 256) × (b₀.entries ≤ length index)
-        go (Ok b) k e = let w = k b refl in (omega arith, omega arith)
-        go ((Err (opened.Bad s))) k e = (omega arith, omega arith)
-        go (Err opened.Full) k e = (omega arith, omega arith)
-
-    pub open_left : {is : List ℕ} → is ≡ sets index 0 (take b₀.entries room) → is ≡ open_index bytes index
-    open_left e = left_by_lem (e ∙ ap (λ (b : Book). sets index 0 (take b.entries room)) eb)
 
 -- ---- a part of a slice, from a place on
 
