@@ -10,7 +10,7 @@ pub piece-requires : goal.piece-requires
 piece-requires c = c.loop-at.invariant.near
 
 pub returns-in_default : goal.returns-in_default
-returns-in_default c = going_bad c.loop-at.invariant c.loop-at-test.true {size = 0} (part-size c.args.bytes.now c.loop-at.at (sym (c.in_default.ensures tt))) refl
+returns-in_default c = going_bad c.loop-at.invariant c.loop-at-test.true {size = 0} (part-size c.args.bytes.now c.loop-at.at (sym c.in_default.ensures)) refl
 
 pub enter-requires : goal.enter-requires
 enter-requires c = part-enter c.args.bytes.now c.loop-at.at (going_enter c.loop-at.invariant c.loop-at-test.true (part-size c.args.bytes.now c.loop-at.at c.in-Some.ensures.0) c.in-Some.ensures.1)
