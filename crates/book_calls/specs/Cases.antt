@@ -6,10 +6,10 @@ use Rattle.std.proofs.Math.Option.{Option, none, some}
 use native.Mathlib.Omega.{arith}
 use Rattle.std.proofs.Math.ListN.{length}
 use Rattle.std.proofs.lemmas.List.Edits.{sets}
-use borrow.Author.Tests.{lt-ltb, le-ltb, ltb-true, ltb-false, leb-false}
+use borrow.Author.Tests.{lt-ltb, ltb-true, ltb-false, leb-false}
 use Rattle.scan.specs.Scan.{pick}
-use Rattle.scan.specs.Laws.{true-false, tests_same}
-use Rattle.octets.specs.Big.{number, number-below}
+use Rattle.scan.specs.Laws.{tests_same}
+use Rattle.octets.specs.Big.{number}
 use Rattle.sheet.specs.Format.{HEAD}
 use Rattle.sheet.specs.declared.Flaw.{Flaw}
 use Rattle.book_parts.specs.Place.{place, place_within}
@@ -17,19 +17,19 @@ use Rattle.book_parts.specs.Moved.{opened, closed}
 use Rattle.book.specs.Ordered.{entry, key_of, start_of}
 use Rattle.book.specs.Pieces.{key, key_at}
 use Rattle.book.specs.Removed.{VERSIONED}
-use Rattle.book.specs.Sheets.{against, Keyed}
-use Rattle.book.specs.Says.{LIMIT, MOST, limit, capacity, book_of, is_key, count, spot, there, full, short, add_by, if_added, end_says, end_bytes, end_index, held_at, seeks, find_by, find_says, remove_by, remove_bytes_by, remove_index_by, remove_says, remove_bytes, remove_index}
+use Rattle.book.specs.Sheets.{against}
+use Rattle.book.specs.Says.{limit, capacity, book_of, is_key, count, spot, there, full, short, add_by, if_added, end_says, end_bytes, end_index, seeks, find_by, find_says, remove_by, remove_bytes_by, remove_index_by, remove_says, remove_bytes, remove_index}
 use Rattle.book.specs.declared.Book.{Book}
-use Rattle.book.specs.Types.{Added, MaybeSought, Removed, sought_at}
-use Rattle.std.specs.Prelude.{Ok, Err, Some, None}
+use Rattle.book.specs.Types.{Added, MaybeFound, MaybeSought, Removed, sought_at}
+use Rattle.std.specs.Prelude.{Ok, Err, Some, None, MatchOption}
 use Rattle.book.specs.declared.NotAdded.TheVariants as added
 use Rattle.book_keys.specs.Cases.{spot_is, there_is}
 
-pub full_is : (b : Book) (index : List ℕ) {a n : ℕ} → a ≡ min 256 (length index) → n ≡ count b index → leb a n ≡ full b index
+pub full_is : (b : Book) (index : List ℕ) {a n : ℕ} → a ≡ min (length index) 256 → n ≡ count b index → leb a n ≡ full b index
 unfolding full capacity
-full_is b index p q = ap₂ leb p q
+full_is b index p q = ap₂ leb (omega arith) q
 
-module _ (b : Book) (bytes sheet : List ℕ) {room : ℕ} (e : room ≡ min 65536 (length bytes)) where
+module _ (b : Book) (bytes sheet : List ℕ) {room : ℕ} (e : room ≡ min (length bytes) 65536) where
   pub short_long : room < length sheet → true ≡ short b bytes sheet
   unfolding short limit
   short_long h = sym (lt-ltb (min 65536 (length bytes)) (b.used + length sheet) (omega arith))
@@ -51,11 +51,19 @@ pub record Whole (b : Book) (bytes index : List ℕ) (i start : ℕ) : Type 0 wh
   pub in_bytes : start + HEAD ≤ length bytes
   pub small : start < 65536
 
-no_sought : {i s n : ℕ} {A : Type 0} → ◌≡◌ {A = Sought} None (sought_at i s n) → A
+place_of : MaybeSought → ℕ
+place_of (Some x) = x.place
+place_of None = 0
+
+starts : MaybeSought → ℕ
+starts (Some x) = x.found.start
+starts None = 0
+
+no_sought : {i s n : ℕ} {A : Type 0} → ◌≡◌ {A = MaybeSought} None (sought_at i s n) → A
 no_sought e = let z : ◌≡◌ {A = ℕ} 0 1 = cc in absurd (omega arith)
 
 pub seeks-whole : (b : Book) (bytes index : List ℕ) (kind size source : ℕ) {i s n : ℕ} → seeks b bytes index kind size source ≡ sought_at i s n → Whole b bytes index i s
-unfolding seeks there
+unfolding seeks there place_of starts
 seeks-whole b bytes index kind size source {i} {s} {n} e =
     go (is_key kind size source) (ltb (spot b index k) (count b index)) (eqb (key_of (get_or index (spot b index k) 0)) k)
     (ltb (length bytes) (start_of (get_or index (spot b index k) 0) + HEAD)) (ltb (length bytes) (start_of (get_or index (spot b index k) 0) + (4 + number bytes (start_of (get_or index (spot b index k) 0)) 4)))
@@ -69,8 +77,8 @@ seeks-whole b bytes index kind size source {i} {s} {n} e =
         → pick a (pick (pick c d false) (pick f None (pick g None (sought_at (spot b index k) (start_of (get_or index (spot b index k) 0)) (4 + number bytes (start_of (get_or index (spot b index k) 0)) 4)))) None) None ≡ sought_at i s n
         → Whole b bytes index i s
     go true true true false false pa pc pd pf pg e =
-        let same-i : spot b index k ≡ i = cc in
-        let same_s : start_of (get_or index (spot b index k) 0) ≡ s = cc in
+        let same-i : spot b index k ≡ i = ap place_of e in
+        let same_s : start_of (get_or index (spot b index k) 0) ≡ s = ap starts e in
         record { in_index = omega (arith, ltb-true (spot b index k) (count b index) pc); in_bytes = omega (arith, ltb-false (length bytes) (start_of (get_or index (spot b index k) 0) + HEAD) pf); small = omega arith }
     go true true true false true pa pc pd pf pg e = no_sought e
     go true true true true g pa pc pd pf pg e = no_sought e
@@ -78,9 +86,14 @@ seeks-whole b bytes index kind size source {i} {s} {n} e =
     go true false d f g pa pc pd pf pg e = no_sought e
     go false c d f g pa pc pd pf pg e = no_sought e
 
-pub found_is : (b : Book) (bytes index : List ℕ) (kind size source : ℕ) {r v : Sought} → r ≡ seeks b bytes index kind size source → r ≡ v → find_by v ≡ find_says b bytes index kind size source
+pub find_is : (b : Book) (bytes index : List ℕ) (kind size source : ℕ) {r : MaybeSought} {q : MaybeFound} → r ≡ seeks b bytes index kind size source
+    → MatchOption r (q ≡ None) (λ x. q ≡ Some x.found) → q ≡ find_says b bytes index kind size source
 unfolding find_says
-found_is b bytes index kind size source e f = ap find_by (sym f ∙ e)
+find_is b bytes index kind size source {r} {q} e h = go r h ∙ ap find_by e
+  where
+    go : (r : MaybeSought) → MatchOption r (q ≡ None) (λ x. q ≡ Some x.found) → q ≡ find_by r
+    go (Some x) h = h
+    go None h = h
 
 -- ---- what is told and left
 

@@ -15,8 +15,23 @@ use Rattle.book.specs.Closed.{kept}
 use Rattle.book.specs.Says.{limit, count, spot, in_use, if_added, if_no_room, crammed, end_says, end_bytes, end_index, add_says, add_bytes, add_index, close_book, close_bytes, close_index}
 use Rattle.book.specs.declared.Book.{Book}
 use Rattle.book.specs.Types.{Added}
-use Rattle.std.specs.Prelude.{Err}
+use Rattle.std.specs.Prelude.{Ok, Err}
+use Rattle.book.specs.declared.NotAdded.{NotAdded}
 use Rattle.book.specs.declared.NotAdded.TheVariants as added
+
+pub ok_err : {b : Book} {why : NotAdded} {A : Type 0} → ◌≡◌ {A = Added} (Ok b) (Err why) → A
+ok_err e = absurd (let z : ◌≡◌ {A = ℕ} 0 1 = cc in omega arith)
+
+pub err_same : {x y : NotAdded} → ◌≡◌ {A = Added} (Err x) (Err y) → x ≡ y
+err_same e = cc
+
+-- an answer that is not that there is no room
+other : {A : Type 0} (r : Added) (x y : A) → (r ≡ (Err added.NoRoom) → ⊥) → if_no_room r x y ≡ y
+other (Ok b) x y h = refl
+other (Err (added.Flawed f)) x y h = refl
+other (Err added.There) x y h = refl
+other (Err added.Full) x y h = refl
+other (Err added.NoRoom) x y h = absurd (h refl)
 
 module _ (b : Book) (bytes index sheet : List ℕ) where
   -- what is told and left: behind the last one, where there was no room there, and in all
@@ -62,15 +77,17 @@ module _ (b : Book) (bytes index sheet : List ℕ) where
   -- ---- both together
 
   module _ {r : Added} {bytes₁ index₁ : List ℕ} (p : EndPut r bytes₁ index₁) where
-    -- an answer that is not that there is no room
-    pub all_end : {a : Added} → r ≡ a → ((x y : Added) → if_no_room a x y ≡ y) → ((x y : List ℕ) → if_no_room a x y ≡ y) → AllPut a bytes₁ index₁
+    pub all_end : (r ≡ (Err added.NoRoom) → ⊥) → AllPut r bytes₁ index₁
     unfolding add_says add_bytes add_index
-    all_end {a} e other others =
-        let is : end_says b bytes index sheet ≡ a = sym p.0 ∙ e in (
-          sym is ∙ sym (ap (λ (z : Added). if_no_room z (pick (crammed b bytes sheet) (Err added.NoRoom) (end_says (close_book b bytes index) (close_bytes b bytes index) (close_index b bytes index) sheet)) (end_says b bytes index sheet)) is ∙ other _ _),
-          p.1 ∙ sym (ap (λ (z : Added). if_no_room z (pick (crammed b bytes sheet) bytes (end_bytes (close_book b bytes index) (close_bytes b bytes index) (close_index b bytes index) sheet)) (end_bytes b bytes index sheet)) is ∙ others _ _),
-          p.2 ∙ sym (ap (λ (z : Added). if_no_room z (pick (crammed b bytes sheet) index (end_index (close_book b bytes index) (close_bytes b bytes index) (close_index b bytes index) sheet)) (end_index b bytes index sheet)) is ∙ others _ _),
+    all_end some =
+        let is : end_says b bytes index sheet ≡ r = sym p.0 in (
+          sym is ∙ sym (ap (λ (z : Added). if_no_room z (pick (crammed b bytes sheet) (Err added.NoRoom) (end_says (close_book b bytes index) (close_bytes b bytes index) (close_index b bytes index) sheet)) (end_says b bytes index sheet)) is ∙ other r _ _ some),
+          p.1 ∙ sym (ap (λ (z : Added). if_no_room z (pick (crammed b bytes sheet) bytes (end_bytes (close_book b bytes index) (close_bytes b bytes index) (close_index b bytes index) sheet)) (end_bytes b bytes index sheet)) is ∙ other r _ _ some),
+          p.2 ∙ sym (ap (λ (z : Added). if_no_room z (pick (crammed b bytes sheet) index (end_index (close_book b bytes index) (close_bytes b bytes index) (close_index b bytes index) sheet)) (end_index b bytes index sheet)) is ∙ other r _ _ some),
         )
+
+    pub all_but : {a : Added} → r ≡ a → (a ≡ (Err added.NoRoom) → ⊥) → AllPut a bytes₁ index₁
+    all_but e some = let q = all_end (λ z. some (sym e ∙ z)) in (sym e ∙ q.0, q.1, q.2)
 
     -- where there was no room nothing had changed
     module _ (e : r ≡ (Err added.NoRoom)) where
@@ -101,18 +118,18 @@ all_closed b bytes index sheet {r} {bytes₁} {index₁} p e {q} {bytes₂} {ind
 
 -- ---- what code has of the live bytes
 
-module _ (b : Book) (bytes : List ℕ) {room end : ℕ} (e : room ≡ min 65536 (length bytes)) (f : end ≡ min b.used room) where
+module _ (b : Book) (bytes : List ℕ) {room end : ℕ} (e : room ≡ min (length bytes) 65536) (f : end ≡ min b.used room) where
   pub live_fits : end ≤ length bytes
   live_fits = omega (arith, e, f)
 
   module _ (sheet : List ℕ) {n : ℕ} (g : n ≡ length (kept (take end bytes))) where
     live_is : n ≡ length (kept (in_use b bytes))
     unfolding in_use limit
-    live_is = g ∙ ap (λ (k : ℕ). length (kept (take k bytes))) (f ∙ ap (min b.used) e)
+    live_is = let same : room ≡ min 65536 (length bytes) = omega arith in g ∙ ap (λ (k : ℕ). length (kept (take k bytes))) (f ∙ ap (min b.used) same)
 
     room_is : room ≡ limit bytes
     unfolding limit
-    room_is = e
+    room_is = omega arith
 
     pub crammed_long : room < length sheet → true ≡ crammed b bytes sheet
     unfolding crammed
