@@ -5,6 +5,7 @@ ghost use Rattle.std.specs.Prelude.{◌≡◌};
 ghost use Rattle.sheet.specs.Format.{head};
 ghost use Rattle.sheet.specs.Says as says;
 
+use answers::Reason;
 use mesh::Mesh;
 
 // Why a sheet is not written or not read.
@@ -66,11 +67,15 @@ pub struct Versioned {
     pub head: Head,
 }
 
-impl Flaw {
+impl Reason for Flaw {
+    ghost number_told = { says.flaw_number };
+
+    ghost path_told = { says.flaw_path };
+
+    ghost place_told = { says.flaw_place };
+
     // The specification's number: `Flaw::LeftOver.number()` is 36.
-    pub fn number(self) -> u64
-        ensures { result ≡ says.flaw_number self }
-    {
+    fn number(self) -> u64 {
         match self {
             Flaw::Cut => 30,
             Flaw::Version => 31,
@@ -92,9 +97,7 @@ impl Flaw {
     }
 
     // The path that 22, 24, 34 and 38 tell, and 0 of all else: of `Flaw::NotLinked(1, 3)` it is 1.
-    pub fn path(self) -> usize
-        ensures { result ≡ says.flaw_path self }
-    {
+    fn path(self) -> usize {
         match self {
             Flaw::Hops(i) => i,
             Flaw::NotLinked(i, _) => i,
@@ -105,9 +108,7 @@ impl Flaw {
     }
 
     // The place that 5, 6, 7, 22 and 24 tell, and 0 of all else: of `Flaw::NotLinked(1, 3)` it is 3.
-    pub fn place(self) -> usize
-        ensures { result ≡ says.flaw_place self }
-    {
+    fn place(self) -> usize {
         match self {
             Flaw::TargetOut(p) => p,
             Flaw::TargetIsSource(p) => p,

@@ -1,27 +1,34 @@
 // The paths after the head of a sheet, looked through and then judged.
 ghost use Rattle.std.specs.Prelude.{◌≡◌, length};
 ghost use Rattle.mesh.specs.Limits.{most_links, most_places};
-ghost use Rattle.judge.specs.Says.{ruling};
+ghost use Rattle.judge.specs.Says.{fault_told};
 ghost use Rattle.sheet.specs.Format.{HEAD, paths_at};
 ghost use Rattle.sheet.specs.Says.{flaw_of, reading_told};
 ghost use Rattle.sheet_check.specs.Says.{sheet_told, paths_against, ruling_of, ruled, flaw_in};
 ghost use Rattle.sheet_check.specs.Needs.{Bodied, Judgeable};
 
+use answers::Refusal;
+use judge::{Fault, Finding};
 use sheet::{Flaw, Head};
 
-// What the judge says against a sheet. The source, the targets, the counts and the unused places are made of the sheet itself, so that the judge has no other
-// number to tell of them (`judged_case`): the last arm is never reached.
-fn flaw_in(number: u64, path: usize, place: usize) -> Flaw
-    ensures { result ≡ flaw_in (ruling number path place) }
+// What the judge has against a sheet, told as a flaw. The source, the targets, the counts and the unused places are made of the sheet itself, so that the judge has nothing
+// else to tell of one (`judged_case`): the arms for all else are never reached.
+fn flaw_in(fault: Fault) -> Flaw
+    ensures { result ≡ flaw_in (fault_told fault) }
 {
-    match number {
-        2 => Flaw::SourceOut,
-        5 => Flaw::TargetOut(place),
-        6 => Flaw::TargetIsSource(place),
-        7 => Flaw::TargetAgain(place),
-        22 => Flaw::NotLinked(path, place),
-        24 => Flaw::SeenAgain(path, place),
-        _ => Flaw::NotAFan,
+    match fault {
+        Fault::Refused(why) => match why {
+            Refusal::SourceOut => Flaw::SourceOut,
+            Refusal::TargetOut(place) => Flaw::TargetOut(place),
+            Refusal::TargetIsSource(place) => Flaw::TargetIsSource(place),
+            Refusal::TargetAgain(place) => Flaw::TargetAgain(place),
+            _ => Flaw::NotAFan,
+        },
+        Fault::Found(finding) => match finding {
+            Finding::NotLinked(path, place) => Flaw::NotLinked(path, place),
+            Finding::SeenAgain(path, place) => Flaw::SeenAgain(path, place),
+            _ => Flaw::NotAFan,
+        },
     }
 }
 
@@ -50,18 +57,10 @@ fn judged_in(
         targets,
     );
     let end = k * (longest + 1);
-    let verdict = judge::judge(
-        head.mesh,
-        head.source,
-        &targets[..k],
-        &places[..end],
-        &counts[..k],
-    );
-    let number = verdict.number();
-    if number == 0 {
-        return Ok(());
+    match judge::judge(head.mesh, head.source, &targets[..k], &places[..end], &counts[..k]) {
+        Ok(()) => Ok(()),
+        Err(fault) => Err(flaw_in(fault)),
     }
-    Err(flaw_in(number, verdict.path(), verdict.place()))
 }
 
 // The same, in room of its own: as much as any mesh wants.

@@ -11,7 +11,6 @@ ghost use Rattle.scan.specs.Scan.{spot_of};
 ghost use Rattle.sheet_put.specs.Stray.{stray_at, stray_in};
 ghost use Rattle.sheet_put.specs.Total.{total};
 
-use scan::Spot;
 use sheet::Version;
 
 // Writes n numbers of a list, from the place `from` of it on, 8 bytes each, at the place `at`.
@@ -103,23 +102,23 @@ pub fn bytes_of(version: Version, counts: &[u64], k: usize) -> usize
 }
 
 // The first of k paths with a zone that is not 0.
-fn first_zone(zones: &[u32], k: usize) -> Spot
+fn first_zone(zones: &[u32], k: usize) -> Option<usize>
     ensures { spot_of result ≡ stray_at zones.now k }
 {
     for i in 0..k {
         if zone_of(zones, i) != 0 {
-            return Spot::At(i);
+            return Some(i);
         }
     }
-    Spot::Nowhere
+    None
 }
 
 // The same where the version has no place for it; nowhere in version 2.
-pub fn stray(version: Version, zones: &[u32], k: usize) -> Spot
+pub fn stray(version: Version, zones: &[u32], k: usize) -> Option<usize>
     ensures { spot_of result ≡ stray_in (version_number version) zones.now k }
 {
     match version {
         Version::One => first_zone(zones, k),
-        Version::Two => Spot::Nowhere,
+        Version::Two => None,
     }
 }

@@ -3,14 +3,17 @@
 
 ghost use Rattle.std.specs.Prelude.{◌≡◌, ◌≤◌, ◌<◌, true, length, MatchResult};
 ghost use Rattle.std.proofs.lemmas.List.Edits.{sets};
+ghost use Rattle.std.proofs.Math.Option.{some};
+ghost use Rattle.judge.specs.Says.{number_of, fault_told};
 ghost use Rattle.sheet.specs.Says.{flaw_of, version_number};
 ghost use Rattle.sheet.specs.declared.Flaw.TheVariants as Flaw;
 ghost use Rattle.sheet_write.specs.Says as says;
 ghost use Rattle.sheet_write.specs.Needs.{Sheeted};
 ghost use Rattle.sheet_write.specs.Heads.{head_bytes};
 
+use answers::Refusal;
+use judge::Fault;
 use mesh::Mesh;
-use scan::Spot;
 use sheet::{Flaw, Head, Version};
 
 // Writes the 16 bytes before the paths, which take n bytes.
@@ -68,8 +71,7 @@ pub fn put_zoned(
     requires { Sheeted head.mesh.kind head.mesh.size head.paths (length places.now) counts.now }
     ensures { says.PutIn (version_number version) zones.now head.mesh.kind head.mesh.size head.source head.paths places.now counts.now out.old result out.new }
 {
-    let stray = sheet_put::stray(version, zones, head.paths);
-    if let Spot::At(i) = stray {
+    if let Some(i) = sheet_put::stray(version, zones, head.paths) {
         return Err(Flaw::Zone(i));
     }
     lay_sheet(version, head, places, counts, zones, out)
@@ -86,7 +88,20 @@ fn version_of(number: u64) -> Result<Version, Flaw>
     }
 }
 
-// What the judge has against a fan that is to be written, where a slice besides may be lacking; and a mesh that has no sheets.
+// What the judge has against a fan that is to be written, told as a flaw: where a slice is too short, and else that it is none.
+fn unwritten(fault: Fault) -> Flaw
+    ensures { some result ≡ says.ruling_against (number_of (fault_told fault)) }
+{
+    match fault {
+        Fault::Refused(why) => match why {
+            Refusal::NoRoom => Flaw::NoRoom,
+            _ => Flaw::NotAFan,
+        },
+        Fault::Found(_) => Flaw::NotAFan,
+    }
+}
+
+// What stands against a fan that is to be written, where a slice besides may be lacking; and against a mesh that has no sheets.
 fn judged(
     mesh: Mesh,
     source: u64,
@@ -100,10 +115,9 @@ fn judged(
     if !mesh.planned() {
         return Err(Flaw::NotAFan);
     }
-    match judge::judge_with(mesh, source, targets, places, counts, lacking).number() {
-        0 => Ok(()),
-        8 => Err(Flaw::NoRoom),
-        _ => Err(Flaw::NotAFan),
+    match judge::judge_with(mesh, source, targets, places, counts, lacking) {
+        Ok(()) => Ok(()),
+        Err(fault) => Err(unwritten(fault)),
     }
 }
 
