@@ -12,14 +12,14 @@ pub returns-then-bit : goal.returns-then-bit
 unfolding minus
 returns-then-bit c =
     let a = c.args in
-    sym (arrival-seen a.was a.number (λ z. omega arith) (omega arith) (omega arith) refl refl (omega arith) (bit-on _ a.was.marks (sym c.bit.ensures ∙ c.if-bit.true)))
+    sym (arrival-seen a.was a.number (λ z. omega arith) (omega arith) (omega arith) refl refl (omega arith) (bit-on _ a.was.marks (sym (rw c.from.ensures at c.bit.ensures) ∙ c.if-bit.true)))
 
 pub returns-then-behind-lt64 : goal.returns-then-behind-lt64
 unfolding minus
 returns-then-behind-lt64 c =
     let a = c.args in
-    ap (λ (m : ℕ). Passed (kept a.was.newest m)) c.flip.ensures
-    ∙ sym (arrival-marked a.was a.number (λ z. omega arith) (omega arith) (omega arith) refl refl (omega arith) (bit_off _ a.was.marks (sym c.bit.ensures ∙ c.if-bit.false)))
+    ap (λ (m : ℕ). Passed (kept a.was.newest m)) (rw c.from-then-behind-lt64.ensures at c.flip.ensures)
+    ∙ sym (arrival-marked a.was a.number (λ z. omega arith) (omega arith) (omega arith) refl refl (omega arith) (bit_off _ a.was.marks (sym (rw c.from.ensures at c.bit.ensures) ∙ c.if-bit.false)))
 
 pub returns : goal.returns
 unfolding minus
