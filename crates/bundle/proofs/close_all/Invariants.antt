@@ -4,7 +4,6 @@ use Rattle.bundle.specs.Closing.{Rows, Closed}
 use Rattle.bundle.proofs.close_all.Given as goal
 
 pub record Inv (w k : ℕ) (ends : List ℕ) (t : ℕ) (l m c d : List ℕ) (i : ℕ) : Type 0 where
-  pub bound : i ≤ k
   pub rows : Rows w k (length ends) (length m) c
   pub long : length m ≡ length l
   pub long_counts : length d ≡ length c
@@ -12,6 +11,3 @@ pub record Inv (w k : ℕ) (ends : List ℕ) (t : ℕ) (l m c d : List ℕ) (i :
 
 abbrev pub invariant-loop-i : goal.invariant-loop-i
 invariant-loop-i l = Inv l.w l.k l.ends l.target l.initial.places l.places l.initial.counts l.counts l.i
-
-abbrev pub decreases-loop-i : goal.decreases-loop-i
-decreases-loop-i l = l.k - l.i
