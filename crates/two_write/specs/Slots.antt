@@ -1,6 +1,6 @@
 -- Slots of one block, written as relays one after another. Assumes nothing.
 use Rattle.std.specs.Prelude.{ℕ, ◌+◌, ◌*◌, ◌^◌, ◌≤◌, ◌<◌, ◌≡◌, refl, List, [], ◌∷◌, ◌++◌, length, get_or, take, set}
-use Rattle.std.proofs.Common.{sym, ap, ◌∙◌, subst, add-one, arith, length-set, length-take, take-suc, take_all}
+use Rattle.std.proofs.Common.{sym, ap, ◌∙◌, add-one, arith, length-set, length-take, take-suc, take_all}
 use Rattle.std.proofs.lemmas.List.Edits.{sets}
 use Rattle.two_math.specs.Relays.{inside}
 use Rattle.two_math.specs.Numbers.{numbers}
