@@ -6,6 +6,14 @@ ghost use Rattle.bits.specs.Bit.{bit};
 ghost use Rattle.two_math.specs.Gates.{Passes, cand};
 ghost use Rattle.two_gate.specs.Says.{Tells, Denied, None, Small, Other, Search, Serves};
 
+// Where a fan begins: the order of the mesh, the source's block, and its slot there.
+#[derive(Clone, Copy)]
+pub struct Home {
+    pub order: u32,
+    pub block: u64,
+    pub slot: u32,
+}
+
 // The targets of a request: how many, and the block of each and its slot there.
 #[derive(Clone, Copy)]
 pub struct Targets {
@@ -88,14 +96,14 @@ fn passes(s0: u64, targets: &Targets, gates: &Gates, j: u32, q: u32) -> bool
 }
 
 // A slot that serves as the gate of the target j.
-pub fn gate_for(m: u32, s0: u64, targets: &Targets, gates: &Gates, j: u32) -> u32
-    requires { Search m s0 targets.now.count targets.now.blocks targets.now.slots gates.now.gated gates.now.slots j }
-    ensures { Serves m s0 targets.now.count targets.now.blocks targets.now.slots gates.now.gated gates.now.slots j result }
+pub fn gate_for(home: Home, targets: &Targets, gates: &Gates, j: u32) -> u32
+    requires { Search home.order home.block targets.now.count targets.now.blocks targets.now.slots gates.now.gated gates.now.slots j }
+    ensures { Serves home.order home.block targets.now.count targets.now.blocks targets.now.slots gates.now.gated gates.now.slots j result }
 {
     let p = targets.slots[j as usize];
-    for c in 0..=m {
-        let q = candidate(m, p, c);
-        if passes(s0, targets, gates, j, q) {
+    for c in 0..=home.order {
+        let q = candidate(home.order, p, c);
+        if passes(home.block, targets, gates, j, q) {
             return q;
         }
     }

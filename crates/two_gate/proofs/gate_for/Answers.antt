@@ -21,16 +21,16 @@ passes-requires c =
     let p = get_or c.args.targets.now.slots c.args.j 0 in (
       omega (arith, c.requires.few, c.requires.order),
       omega (arith, c.requires.few, c.requires.order, c.requires.lt),
-      subst (λ (y : ℕ). y < 64) (sym c.candidate-q.ensures) (cand_small c.args.m p c.loop-c.c c.requires.order (c.requires.slot c.args.j) (omega arith)),
-      (λ i. small c.args.m (get_or c.args.targets.now.slots i 0) c.requires.order (c.requires.slot i)),
-      (λ i. small c.args.m (get_or c.args.gates.now.slots i 0) c.requires.order (c.requires.gate i)),
+      subst (λ (y : ℕ). y < 64) (sym c.candidate-q.ensures) (cand_small c.args.home.order p c.loop-c.c c.requires.order (c.requires.slot c.args.j) (omega arith)),
+      (λ i. small c.args.home.order (get_or c.args.targets.now.slots i 0) c.requires.order (c.requires.slot i)),
+      (λ i. small c.args.home.order (get_or c.args.gates.now.slots i 0) c.requires.order (c.requires.gate i)),
     )
 
 pub returns-then-passes : goal.returns-then-passes
 returns-then-passes c =
     let a = c.args in
-    serves a.m a.s0 a.targets.now.count a.targets.now.blocks a.targets.now.slots a.gates.now.gated a.gates.now.slots a.j c.candidate-q.result c.requires
-    (subst (λ (y : ℕ). Near a.m (get_or a.targets.now.slots a.j 0) y) (sym c.candidate-q.ensures) (cand-near a.m (get_or a.targets.now.slots a.j 0) c.loop-c.c (omega arith)))
+    serves a.home.order a.home.block a.targets.now.count a.targets.now.blocks a.targets.now.slots a.gates.now.gated a.gates.now.slots a.j c.candidate-q.result c.requires
+    (subst (λ (y : ℕ). Near a.home.order (get_or a.targets.now.slots a.j 0) y) (sym c.candidate-q.ensures) (cand-near a.home.order (get_or a.targets.now.slots a.j 0) c.loop-c.c (omega arith)))
     (c.passes.ensures.so c.if-passes.true)
 
 pub loop-c-preserved : goal.loop-c-preserved
@@ -38,16 +38,16 @@ loop-c-preserved c =
     let a = c.args in
     record {
       bound = omega arith;
-      none = fails_more a.m a.s0 a.targets.now.count a.targets.now.blocks a.targets.now.slots a.gates.now.slots a.gates.now.gated a.j _ _ c.loop-c.invariant.none c.candidate-q.ensures (c.passes.ensures.not c.if-passes.false);
+      none = fails_more a.home.order a.home.block a.targets.now.count a.targets.now.blocks a.targets.now.slots a.gates.now.slots a.gates.now.gated a.j _ _ c.loop-c.invariant.none c.candidate-q.ensures (c.passes.ensures.not c.if-passes.false);
     }
 
 -- the last candidate fails too
 pub returns-else-passes : goal.returns-else-passes
 returns-else-passes c =
     let a = c.args in
-    let e : c.loop-c.c + 1 ≡ suc a.m = omega arith in
-    let all = fails_more a.m a.s0 a.targets.now.count a.targets.now.blocks a.targets.now.slots a.gates.now.slots a.gates.now.gated a.j _ _ c.loop-c.invariant.none c.candidate-q.ensures (c.passes.ensures.not c.if-passes.false) in
-    absurd (some_serves a.m a.s0 a.targets.now.count a.targets.now.blocks a.targets.now.slots a.gates.now.gated a.gates.now.slots a.j c.requires (subst (λ (y : ℕ). Fails a.m a.s0 a.targets.now.count a.targets.now.blocks a.targets.now.slots a.gates.now.slots a.gates.now.gated a.j y) e all))
+    let e : c.loop-c.c + 1 ≡ suc a.home.order = omega arith in
+    let all = fails_more a.home.order a.home.block a.targets.now.count a.targets.now.blocks a.targets.now.slots a.gates.now.slots a.gates.now.gated a.j _ _ c.loop-c.invariant.none c.candidate-q.ensures (c.passes.ensures.not c.if-passes.false) in
+    absurd (some_serves a.home.order a.home.block a.targets.now.count a.targets.now.blocks a.targets.now.slots a.gates.now.gated a.gates.now.slots a.j c.requires (subst (λ (y : ℕ). Fails a.home.order a.home.block a.targets.now.count a.targets.now.blocks a.targets.now.slots a.gates.now.slots a.gates.now.gated a.j y) e all))
 
 pub returns : goal.returns
 returns c = absurd (omega arith)

@@ -12,4 +12,4 @@ pub record Inv (m s0 k : ℕ) (blocks slots gates : List ℕ) (done j c : ℕ) :
   pub none : Fails m s0 k blocks slots gates done j c
 
 abbrev pub invariant-loop-c : goal.invariant-loop-c
-invariant-loop-c l = Inv l.m l.s0 l.targets.count l.targets.blocks l.targets.slots l.gates.slots l.gates.gated l.j l.c
+invariant-loop-c l = Inv l.home.order l.home.block l.targets.count l.targets.blocks l.targets.slots l.gates.slots l.gates.gated l.j l.c
