@@ -21,14 +21,9 @@ fn all_home(order: Order, source: u64, targets: &[u64]) -> bool
     ensures { Home order.0 source targets.now result }
 {
     let home = two_parts::block_of(order, source).0;
-    let mut i: usize = 0;
-    while i < targets.len() {
-        if two_parts::block_of(order, targets[i]).0 != home {
-            return false;
-        }
-        i += 1;
-    }
-    true
+    targets
+        .iter()
+        .all(|target| two_parts::block_of(order, *target).0 == home)
 }
 
 // Plans a sound request, where there is room. Inner: `planner` calls it for a request that it has checked.
@@ -41,12 +36,8 @@ pub fn lay(m: u32, source: u64, targets: &[u64], w: usize, places: &mut [u64], c
         two_ring::plan(source, targets, places, counts);
         return;
     }
-    if targets.len() == m as usize + 1 {
-        if all_home(Order(m as u64), source, targets) {
-            two_round::plan(m, source, targets, w, places, counts);
-            return;
-        }
-        two_general::general(m, source, targets, w, places, counts);
+    if targets.len() == m as usize + 1 && all_home(Order(m as u64), source, targets) {
+        two_round::plan(m, source, targets, w, places, counts);
         return;
     }
     two_general::general(m, source, targets, w, places, counts);
