@@ -13,6 +13,7 @@ pub struct Record {
 }
 
 // What becomes of a number, with the record afterwards. A refusal holds the record as it was.
+// Stays: an enum of its own and no Result, since each of the three has a record to keep, and a Result would hold it in both arms.
 #[derive(Clone, Copy)]
 pub enum Arrival {
     // 0: the frame is passed.
@@ -76,15 +77,16 @@ pub fn arrive(was: Record, number: u16) -> Arrival
             marks: 1,
         });
     }
+    // Stays: these two functions and not the methods, since they promise the equation of the sum that the rules are proved from.
     let ahead = std::num::wrapping_sub_u16(number, newest);
     let behind = std::num::wrapping_sub_u16(newest, number);
     if behind < 64 {
-        if bits::bit(marks, behind as u32) {
+        if bits::bit(marks, u32::from(behind)) {
             return Arrival::Seen(was);
         }
         return Arrival::Passed(Record {
             newest: newest,
-            marks: bits::flip(marks, behind as u32),
+            marks: bits::flip(marks, u32::from(behind)),
         });
     }
     if ahead <= 32767 {

@@ -10,7 +10,7 @@ abbrev pub bundle_paths : (K : Kind) (n : ℕ) → ℕ
 bundle_paths K n = pick (K.known n) (K.mesh n).links 0
 
 -- a column of k entries at the front of what was there
-abbrev pub ahead : (k : ℕ) (column was : List ℕ) → List ℕ
+abbrev pub ahead : {X : Type 0} (k : ℕ) (column was : List X) → List X
 ahead k column was = column ++ drop k was
 
 -- 1 for each number below n at which the test holds, and 0 for each other

@@ -25,37 +25,23 @@ pub fn bundle_paths(mesh: Mesh) -> usize
     0
 }
 
-// Whether a is u, and b is v.
-fn same(a: u64, b: u64, u: u64, v: u64) -> bool
-    ensures { result ≡ (eqb a u && eqb b v) }
-{
-    if a == u {
-        return b == v;
-    }
-    false
-}
-
 // Whether the pair a, b is u, v in either order.
 fn pair(a: u64, b: u64, u: u64, v: u64) -> bool
     ensures { result ≡ specs.pair a b u v }
 {
-    if same(a, b, u, v) {
-        return true;
-    }
-    same(a, b, v, u)
+    (a, b) == (u, v) || (a, b) == (v, u)
 }
 
 // Whether one of the pairs is u, v in either order; a last number without a partner is no pair.
 fn cut(cuts: &[u64], u: u64, v: u64) -> bool
     ensures { result ≡ specs.cut cuts.now u v }
 {
-    let n = cuts.len();
-    let mut j: usize = 0;
-    while 2 <= n - j {
-        if pair(cuts[j], cuts[j + 1], u, v) {
+    let mut rest = cuts;
+    while let [a, b, others @ ..] = rest {
+        if pair(*a, *b, u, v) {
             return true;
         }
-        j += 2;
+        rest = others;
     }
     false
 }
@@ -66,10 +52,7 @@ fn stopped_at(stopped: &[u64], hit: &[u64], x: u64) -> bool
     requires x_value { has stopped.now x ≡ true → marked hit.now (key x x) ≡ true }
     ensures { result ≡ has stopped.now x }
 {
-    if marks::marked(hit, struck::key(x, x)) {
-        return scan::among(stopped, 0, stopped.len(), x);
-    }
-    false
+    marks::marked(hit, struck::key(x, x)) && scan::among(stopped, 0, stopped.len(), x)
 }
 
 // Whether the link u, v is cut: without its mark it is not.
@@ -78,10 +61,7 @@ fn cut_at(cuts: &[u64], hit: &[u64], u: u64, v: u64) -> bool
     requires v_value { specs.cut cuts.now u v ≡ true → marked hit.now (key u v) ≡ true }
     ensures { result ≡ specs.cut cuts.now u v }
 {
-    if marks::marked(hit, struck::key(u, v)) {
-        return cut(cuts, u, v);
-    }
-    false
+    marks::marked(hit, struck::key(u, v)) && cut(cuts, u, v)
 }
 
 // Whether a relay on path i has stopped, where those that have are marked.
@@ -98,13 +78,11 @@ fn stopped_on(
     ensures { result ≡ any (specs.stops w places.now (failed stopped.now []) i) 0 (hops counts.now i + 1) }
 {
     let h = counts[i] as usize;
-    let mut p: usize = 0;
-    while p <= h {
+    for p in 0..h + 1 {
         let x = judge_rows::relay(w, places, i, p);
         if stopped_at(stopped, hit, x) {
             return true;
         }
-        p += 1;
     }
     false
 }
@@ -116,14 +94,12 @@ fn cut_on(w: usize, places: &[u64], counts: &[u64], cuts: &[u64], hit: &[u64], i
     ensures { result ≡ any (specs.severs w places.now (failed [] cuts.now) i) 0 (hops counts.now i) }
 {
     let h = counts[i] as usize;
-    let mut p: usize = 0;
-    while p < h {
+    for p in 0..h {
         let u = judge_rows::relay(w, places, i, p);
         let v = judge_rows::relay(w, places, i, p + 1);
         if cut_at(cuts, hit, u, v) {
             return true;
         }
-        p += 1;
     }
     false
 }
@@ -144,17 +120,7 @@ fn whole(
     requires struck_2 { Struck gaps.now w places.now counts.now cuts.now 1 i }
     ensures { result ≡ specs.whole w places.now counts.now (failed stopped.now cuts.now) i }
 {
-    if stopped_on(w, places, counts, stopped, halts, i) {
-        return false;
-    }
-    !cut_on(w, places, counts, cuts, gaps, i)
-}
-
-// 1 for yes, 0 for no.
-fn flag(b: bool) -> u64
-    ensures { result ≡ pick b 1 0 }
-{
-    if b { 1 } else { 0 }
+    !stopped_on(w, places, counts, stopped, halts, i) && !cut_on(w, places, counts, cuts, gaps, i)
 }
 
 // Writes for each of k paths whether it is whole, and counts those that are.
@@ -176,26 +142,20 @@ fn mark(
     let mut gaps = [0u64; marks::WORDS];
     struck::struck(w, places, counts, cuts, k, 1, &mut gaps);
     let mut n: u64 = 0;
-    let mut i: usize = 0;
-    while i < k {
-        let one = flag(whole(w, places, counts, stopped, cuts, &halts, &gaps, i));
+    for i in 0..k {
+        let one = u64::from(whole(w, places, counts, stopped, cuts, &halts, &gaps, i));
         out[i] = one;
         n += one;
-        i += 1;
     }
     n
 }
 
-// Writes the first k numbers of a list at the front of another.
-fn copy(from: &[u64], k: usize, to: &mut [u64])
+// Writes the first k values of a list at the front of another.
+pub fn copy<T: Copy>(from: &[T], k: usize, to: &mut [T])
     requires { Copied k (length from.now) (length to.old) }
     ensures { to.new ≡ ahead k (take k from.now) to.old }
 {
-    let mut i: usize = 0;
-    while i < k {
-        to[i] = from[i];
-        i += 1;
-    }
+    to[..k].copy_from_slice(&from[..k]);
 }
 
 // Fills the three columns for the paths to the targets, and counts the paths that are whole.

@@ -9,11 +9,44 @@ ghost use Rattle.cube_math.specs.Loops.{Sorting};
 ghost use Rattle.cube_math.specs.Choose.{Chosen};
 ghost use Rattle.cube_math.specs.Request.{Request, Settled};
 ghost use Rattle.cube_rows.specs.Grid.{hops, target, Rows, New};
+ghost use Rattle.std.specs.Iterator.{at_most};
+ghost use Rattle.cube_moves.specs.Turn.{Turn};
 ghost use Rattle.cube_moves.specs.Sort.{Doored, SortStep};
 ghost use Rattle.cube_moves.specs.Lone.{Open, Ended, Lone, Alone};
 ghost use Rattle.cube_moves.specs.Cut.{Like, Unlike, Kept, HomeOf, Parting, Marked, Beside, StoodIn};
 ghost use Rattle.cube_moves.specs.Halves.{Divided};
 ghost use Rattle.cube_moves.specs.Bring.{Ready, Turns, Homes, Fetched};
+
+// Where paths start, and by which ways: the relay, the dimensions that are free, and those of them that are shut as the first of a path (its doors).
+#[derive(Clone, Copy)]
+pub struct Start {
+    pub free: u64,
+    pub s: u64,
+    pub shut: u64,
+}
+
+// ---- sets of rows
+
+// The members of a set of rows, the lowest first, each with its number below 64.
+#[derive(Drop)]
+struct Members(u64);
+
+impl Iterator for Members {
+    type Item = u32;
+
+    ghost next_gives = { λ s r t. Turn s.0 r t.0 };
+
+    ghost remaining = { λ s. at_most (ones s.0) };
+
+    fn next(&mut self) -> Option<u32> {
+        if self.0 == 0 {
+            return None;
+        }
+        let j = bits::lowest(self.0);
+        self.0 = bits::flip(self.0, j);
+        Some(j)
+    }
+}
 
 // ---- targets behind open doors
 
@@ -36,16 +69,13 @@ pub struct Sorted {
 }
 
 // One row, whose target is t.
-fn sort_one(free: u64, s: u64, left: u64, more: u64, t: u64, j: u32) -> Sorted
+fn sort_one(start: Start, left: u64, more: u64, t: u64, j: u32) -> Sorted
     requires { j < 64 }
-    ensures { SortStep free s left more t j result.left result.more }
+    ensures { SortStep start.free start.s left more t j result.left result.more }
 {
-    let d = door(s, cube_rows::less(free, more), t);
+    let d = door(start.s, cube_rows::less(start.free, more), t);
     if d == 0 {
-        return Sorted {
-            left: left,
-            more: more,
-        };
+        return Sorted { left, more };
     }
     Sorted {
         left: bits::flip(left, j),
@@ -54,35 +84,29 @@ fn sort_one(free: u64, s: u64, left: u64, more: u64, t: u64, j: u32) -> Sorted
 }
 
 // Leaves out each row whose target stands behind an open door, where it is reached at once, and shuts that door.
-pub fn sort(free: u64, s: u64, shut: u64, m: u64, w: usize, grid: &[u64]) -> Sorted
-    requires { Rows w m grid.now × New w m grid.now × ((i : ℕ) → bb.bit i shut ≡ 1 → bb.bit i free ≡ 1) }
-    ensures { Sorting free s shut m 0 result.left result.more (target w grid.now) (hops w grid.now) }
+pub fn sort(start: Start, m: u64, w: usize, grid: &[u64]) -> Sorted
+    requires { Rows w m grid.now × New w m grid.now × ((i : ℕ) → bb.bit i start.shut ≡ 1 → bb.bit i start.free ≡ 1) }
+    ensures { Sorting start.free start.s start.shut m 0 result.left result.more (target w grid.now) (hops w grid.now) }
 {
     let mut left = m;
-    let mut more = shut;
-    let mut todo = m;
-    while todo != 0 {
-        let j = bits::lowest(todo);
+    let mut more = start.shut;
+    for j in Members(m) {
         let t = cube_rows::target(grid, w, j as usize);
-        let r = sort_one(free, s, left, more, t, j);
+        let r = sort_one(start, left, more, t, j);
         left = r.left;
         more = r.more;
-        todo = bits::flip(todo, j);
     }
-    Sorted {
-        left: left,
-        more: more,
-    }
+    Sorted { left, more }
 }
 
 // ---- one path
 
 // An open door, one of x if there is such.
-fn open_door(free: u64, shut: u64, x: u64) -> u32
-    requires { ones shut < ones free }
-    ensures { Open free shut result }
+fn open_door(start: Start, x: u64) -> u32
+    requires { ones start.shut < ones start.free }
+    ensures { Open start.free start.shut result }
 {
-    let doors = cube_rows::less(free, shut);
+    let doors = cube_rows::less(start.free, start.shut);
     let good = x & doors;
     if good == 0 {
         return bits::lowest(doors);
@@ -104,13 +128,13 @@ fn end(d: u64, i: u32, goal: u64, j: usize, w: usize, grid: &mut [u64]) -> u64
 }
 
 // One path, from s to the target of row j.
-pub fn single(free: u64, s: u64, shut: u64, j: usize, w: usize, grid: &mut [u64])
-    requires { Lone free s shut (target w grid.old j) j w grid.old }
-    ensures { Alone free s shut (target w grid.old j) j w grid.old grid.new }
+pub fn single(start: Start, j: usize, w: usize, grid: &mut [u64])
+    requires { Lone start.free start.s start.shut (target w grid.old j) j w grid.old }
+    ensures { Alone start.free start.s start.shut (target w grid.old j) j w grid.old grid.new }
 {
     let d = cube_rows::target(grid, w, j);
-    let i = open_door(free, shut, s ^ d);
-    let goal = bits::flip(s, i);
+    let i = open_door(start, start.s ^ d);
+    let goal = bits::flip(start.s, i);
     let mut here = end(d, i, goal, j, w, grid);
     while here != goal {
         here = bits::flip(here, bits::lowest(here ^ goal));
@@ -137,11 +161,8 @@ fn alike(m: u64, f: u64, mask: u64, w: usize, grid: &[u64]) -> u64
     ensures { Chosen (Like (target w grid.now) f mask) (Unlike (target w grid.now) f mask) m result }
 {
     let mut r = 0;
-    let mut todo = m;
-    while todo != 0 {
-        let j = bits::lowest(todo);
+    for j in Members(m) {
         r = keep(r, j, (cube_rows::target(grid, w, j as usize) ^ f) & mask);
-        todo = bits::flip(todo, j);
     }
     r
 }
@@ -185,11 +206,8 @@ fn beside(rest: u64, f: u64, shut: u64, m: u64, w: usize, grid: &[u64]) -> u32
     ensures { Beside rest f shut m (target w grid.now) result }
 {
     let mut taken = shut;
-    let mut todo = m;
-    while todo != 0 {
-        let j = bits::lowest(todo);
+    for j in Members(m) {
         taken = mark(taken, f ^ cube_rows::target(grid, w, j as usize));
-        todo = bits::flip(todo, j);
     }
     bits::lowest(cube_rows::less(rest, taken))
 }
@@ -207,39 +225,34 @@ fn stand_in(rest: u64, f: u64, shut: u64, far: u64, home: u64, w: usize, grid: &
     cube_rows::start(grid, w, h as usize, bits::flip(f, d));
 }
 
-// What is asked on the two sides of the dimension b: `rest` the dimensions but b, f = s^b, `low` the doors shut but b, the rows on the far side, and
-// the one of f.
+// What is asked on the far side of the dimension b: its start, from f = s^b by the dimensions but b, the doors shut but b; its rows, and the one of f.
 #[derive(Clone, Copy)]
 pub struct Cut {
     pub b: u32,
-    pub rest: u64,
-    pub f: u64,
-    pub low: u64,
+    pub side: Start,
     pub far: u64,
     pub home: u64,
 }
 
 // Divides the rows m; the far rows then hold what is asked on the far side.
-pub fn divide(free: u64, s: u64, shut: u64, m: u64, w: usize, grid: &mut [u64]) -> Cut
-    requires { Rows w m grid.old × (2 ≤ ones m) × Request free s shut m (target w grid.old) × Settled free s shut m (target w grid.old) × New w m grid.old }
-    ensures { Divided free s shut m w grid.old result.b result.rest result.f result.low result.far result.home grid.new }
+pub fn divide(start: Start, m: u64, w: usize, grid: &mut [u64]) -> Cut
+    requires { Rows w m grid.old × (2 ≤ ones m) × Request start.free start.s start.shut m (target w grid.old) × Settled start.free start.s start.shut m (target w grid.old) × New w m grid.old }
+    ensures { Divided start.free start.s start.shut m w grid.old result.b result.side.free result.side.s result.side.shut result.far result.home grid.new }
 {
     let b = parting(m, w, grid);
-    let rest = bits::flip(free, b);
-    let f = bits::flip(s, b);
+    let rest = bits::flip(start.free, b);
+    let f = bits::flip(start.s, b);
     let pow = bits::power(b);
-    let low = cube_rows::less(shut, pow);
+    let low = cube_rows::less(start.shut, pow);
     let far = alike(m, f, pow, w, grid);
-    let home = home_of(far, f, free, shut, b, w, grid);
+    let home = home_of(far, f, start.free, start.shut, b, w, grid);
     stand_in(rest, f, low, far, home, w, grid);
-    Cut {
-        b: b,
-        rest: rest,
-        f: f,
-        low: low,
-        far: far,
-        home: home,
-    }
+    let side = Start {
+        free: rest,
+        s: f,
+        shut: low,
+    };
+    Cut { b, side, far, home }
 }
 
 // ---- the far paths are taken home
@@ -283,7 +296,7 @@ fn bring_first(b: u32, f: u64, shut: u64, far: u64, home: u64, w: usize, grid: &
         let used = bring_home(b, f, h as usize, w, grid);
         return Taken {
             todo: bits::flip(far, h),
-            used: used,
+            used,
         };
     }
     if bits::bit(shut, b) {
@@ -303,12 +316,9 @@ pub fn bring(b: u32, f: u64, shut: u64, far: u64, home: u64, w: usize, grid: &mu
     ensures { Fetched b f shut far home w grid.old grid.new 0 result }
 {
     let t = bring_first(b, f, shut, far, home, w, grid);
-    let mut todo = t.todo;
     let mut used = t.used;
-    while todo != 0 {
-        let j = bits::lowest(todo);
-        used = used | bring_one(b, f, j as usize, w, grid);
-        todo = bits::flip(todo, j);
+    for j in Members(t.todo) {
+        used |= bring_one(b, f, j as usize, w, grid);
     }
     used
 }

@@ -6,30 +6,41 @@ ghost use Rattle.std.specs.Prelude.{◌≡◌, ℕ, ◌+◌, ◌-◌, ◌*◌, �
 ghost use Rattle.cube_split.specs.Plan.{Asked, Planned};
 ghost use Rattle.cube_split.specs.Fan.{Begun, Settled, Spread, Sought, Given};
 
+use cube_moves::Start;
 use paths::FILLER;
 
-// Paths from s to the targets of the rows m, in the dimensions `free`, through doors that are not shut.
-pub fn plan(free: u64, s: u64, shut: u64, m: u64, w: usize, grid: &mut [u64])
-    requires { Asked free s shut m w grid.old }
-    ensures { Planned free s shut m w grid.old grid.new }
+// Paths from the start to the targets of the rows m, in the dimensions that are free there, through doors that are not shut.
+pub fn plan(start: Start, m: u64, w: usize, grid: &mut [u64])
+    requires { Asked start.free start.s start.shut m w grid.old }
+    ensures { Planned start.free start.s start.shut m w grid.old grid.new }
 {
-    let r = cube_moves::sort(free, s, shut, m, w, grid);
+    let r = cube_moves::sort(start, m, w, grid);
     let left = r.left;
     let more = r.more;
+    let rest = Start {
+        free: start.free,
+        s: start.s,
+        shut: more,
+    };
     if left == 0 {
         return;
     }
     let x = bits::lowest(left);
     let others = bits::flip(left, x);
     if others == 0 {
-        cube_moves::single(free, s, more, x as usize, w, grid);
+        cube_moves::single(rest, x as usize, w, grid);
         return;
     }
-    let c = cube_moves::divide(free, s, more, left, w, grid);
-    plan(c.rest, c.f, c.low, c.far, w, grid);
-    let used = cube_moves::bring(c.b, c.f, more, c.far, c.home, w, grid);
-    let near = cube_rows::less(left, c.far);
-    plan(c.rest, s, c.low | used, near, w, grid);
+    let c = cube_moves::divide(rest, left, w, grid);
+    let far = c.side;
+    plan(far, c.far, w, grid);
+    let used = cube_moves::bring(c.b, far.s, more, c.far, c.home, w, grid);
+    let near = Start {
+        free: far.free,
+        s: start.s,
+        shut: far.shut | used,
+    };
+    plan(near, cube_rows::less(left, c.far), w, grid);
 }
 
 // The first n dimensions, or rows.
@@ -47,10 +58,8 @@ fn begin(targets: &[u64], w: usize, grid: &mut [u64])
     requires { (2 ≤ w) × (length targets.now * w ≤ length grid.old) }
     ensures { Begun w targets.now (length targets.now) grid.old grid.new }
 {
-    let mut j: usize = 0;
-    while j < targets.len() {
-        cube_rows::start(grid, w, j, targets[j]);
-        j += 1;
+    for (j, t) in targets.iter().enumerate() {
+        cube_rows::start(grid, w, j, *t);
     }
 }
 
@@ -71,10 +80,8 @@ fn spread(s: u64, w: usize, k: usize, places: &mut [u64], counts: &mut [u64])
     requires { ((j : ℕ) → j < k → get_or places.old (j * w) 0 < w) × (k * w ≤ length places.old) × (k ≤ length counts.old) }
     ensures { Spread s w k places.old places.new counts.old counts.new }
 {
-    let mut j: usize = 0;
-    while j < k {
+    for j in 0..k {
         counts[j] = settle(s, w, j * w, places);
-        j += 1;
     }
 }
 
@@ -94,6 +101,11 @@ pub fn fan_through(
     let k = targets.len();
     let w = n as usize + 2;
     begin(targets, w, places);
-    plan(full(n), s, shut, full(k as u32), w, places);
+    let start = Start {
+        free: full(n),
+        s,
+        shut,
+    };
+    plan(start, full(k as u32), w, places);
     spread(s, w, k, places, counts);
 }

@@ -1,12 +1,9 @@
 -- The columns of the paths of a fan or a bundle, gathered for so many entries (`Gathers`), and how many there are to write. Definitions; assumes nothing.
-use Rattle.std.specs.Prelude.{ℕ, ◌≤◌, ◌<◌, ◌≡◌, List, ◌++◌, eqb, ltb, length, drop, get_or}
-use Rattle.scan.specs.Scan.{pick}
+use Rattle.std.specs.Prelude.{ℕ, ◌≤◌, ◌<◌, ◌≡◌, List, ◌++◌, Ok, Err, eqb, length, drop, get_or, min}
 use Rattle.paths.specs.Whole.{Failed}
 use Rattle.mesh.specs.Limits.{any_links}
 use Rattle.judge.specs.Says.{Asked}
-use Rattle.survivors.specs.Tally.{tally_told}
-use Rattle.survivors.specs.declared.Tally.{Tally}
-use Rattle.survivors.specs.declared.Tally.TheVariants as tally
+use Rattle.survivors.specs.Tally.{Tally, tally_told}
 use Rattle.entries.specs.Says.{entry_of, path_entry, entries, settle, listed_told}
 use Rattle.entries.specs.declared.Entry.{Entry}
 use Rattle.entries.specs.declared.gathered.Gathered.{Gathered}
@@ -17,13 +14,12 @@ MOST = any_links
 
 -- as many as there is room for, up to the most
 unfoldable pub capped : ℕ → ℕ
-capped room = pick (ltb room MOST) room MOST
+capped room = min room MOST
 
 -- the entries that a tally comes with, of k paths
 abbrev pub taken_of : Tally → ℕ → ℕ
-taken_of (tally.Whole c) k = k
-taken_of (tally.Found f) k = 0
-taken_of (tally.Refused why) k = 0
+taken_of (Ok c) k = k
+taken_of (Err f) k = 0
 
 -- entry i of the columns: a path is whole where its mark is 1
 abbrev pub entry_at : Gathered → ℕ → Entry

@@ -1,7 +1,7 @@
 -- Why survivors over a list of entries keeps its promise: what is gathered from the plain function's columns (`gathered`), and the list that is
 -- filled from it (`listed`). Assumes nothing.
-use Rattle.std.specs.Prelude.{ℕ, zero, suc, ◌≤◌, ◌<◌, ◌≡◌, refl, Bool, true, false, List, [], ◌∷◌, ◌++◌, eqb, ltb, length, take, drop, get_or}
-use Rattle.std.proofs.Common.{sym, ap, ap₂, ◌∙◌, arith, length-append, get_or-take, length-take-le, le-ltb, ltb-true, ltb-false}
+use Rattle.std.specs.Prelude.{ℕ, zero, suc, ◌≤◌, ◌<◌, ◌≡◌, min, refl, Bool, true, false, List, [], ◌∷◌, ◌++◌, Ok, Err, eqb, ltb, length, take, drop, get_or}
+use Rattle.std.proofs.Common.{sym, ap, ap₂, ◌∙◌, arith, length-append, get_or-take, length-take-le, lt-ltb, le-ltb, ltb-true, ltb-false}
 use Rattle.std.proofs.Math.Option.{Option, none, some}
 use Rattle.std.proofs.lemmas.List.{length-replicate}
 use Rattle.std.proofs.Math.ListN.{get_or-append}
@@ -17,14 +17,12 @@ use Rattle.mesh.specs.Limits.{known-links}
 use Rattle.mesh.specs.Requests.{request_fine, ends-fine, neither_wanting}
 use Rattle.judge.specs.Says.{number_of, rule, verdict_told, Asked, fan_asked, bundle_asked, asked_against, asked_finding}
 use Rattle.judge.specs.Asked.{Passed, asked_alike, asked_passed}
-use Rattle.judge.specs.Numbers.{Numbered, findings_numbered, found_number, refused_number, rule_clean}
+use Rattle.judge.specs.Numbers.{Numbered, findings_numbered, fault_number, rule_clean}
 use Rattle.columns.specs.Says.{ahead, marks}
 use Rattle.columns.specs.Laws.{marks-at, marks-length}
-use Rattle.survivors.specs.Tally.{tallied, ruling_of, verdict_of, tally_told}
+use Rattle.survivors.specs.Tally.{Tally, tallied, ruling_of, verdict_of, tally_told}
 use Rattle.survivors.specs.Says.{few, settled, lacking, scarce, wanting_of, SurvivedZoned}
 use Rattle.survivors.specs.Laws.{settled_is, settled-not}
-use Rattle.survivors.specs.declared.Tally.{Tally}
-use Rattle.survivors.specs.declared.Tally.TheVariants as tally
 use Rattle.entries.specs.Says.{entry_of, path_entry, entries, listed_told, Listed}
 use Rattle.entries.specs.Gathered.{MOST, capped, taken_of, entry_at, Gathers}
 use Rattle.entries.specs.declared.Entry.{Entry}
@@ -50,11 +48,11 @@ scarce_alike k zones n = ap (pick (scarce k zones n) true) (few_alike k n) ∙ g
 
 scarce-capped : (k zones room : ℕ) → k ≤ MOST → scarce k zones (capped room) ≡ scarce k zones room
 unfolding capped
-scarce-capped k zones room h = ap (pick (ltb zones k) true) (go (ltb room MOST) refl)
+scarce-capped k zones room h = ap (pick (ltb zones k) true) (go (ltb room k) refl)
   where
-    go : (b : Bool) → ltb room MOST ≡ b → ltb (pick b room MOST) k ≡ ltb room k
-    go true e = refl
-    go false e = let l = ltb-false room MOST e in simp (le-ltb MOST k h, le-ltb room k (omega arith))
+    go : (b : Bool) → ltb room k ≡ b → ltb (min room MOST) k ≡ b
+    go true e = let l = ltb-true room k e in lt-ltb (min room MOST) k (omega arith)
+    go false e = let l = ltb-false room k e in le-ltb (min room MOST) k (omega arith)
 
 -- nothing but room may stand against it where there are more paths than that
 pub fan-few : (kind n s : ℕ) (targets : List ℕ) → order.first (fan_asked (kind_of kind) n s targets).faults ≡ none → length targets ≤ MOST
@@ -72,26 +70,22 @@ bundle_few kind n s t e =
 module _ (o : Option Refusal) (f : Finding) (numbered : Numbered f) where
   -- entries come only where nothing is found
   taken_clean : (t : Tally) (k i : ℕ) → verdict_told (verdict_of t) ≡ rule o f → i < taken_of t k → (o ≡ none) × (f ≡ clean)
-  taken_clean (tally.Whole c) k i e h = rule_clean o f numbered e
-  taken_clean (tally.Found x) k i e h = absurd (omega arith)
-  taken_clean (tally.Refused why) k i e h = absurd (omega arith)
+  taken_clean (Ok c) k i e h = rule_clean o f numbered e
+  taken_clean (Err x) k i e h = absurd (omega arith)
 
   taken_settled : (t : Tally) (k : ℕ) → verdict_told (verdict_of t) ≡ rule o f → taken_of t k ≡ settled o f k 0
-  taken_settled (tally.Whole c) k e = let r = rule_clean o f numbered e in sym (settled_is k 0 r.0 r.1)
-  taken_settled (tally.Found x) k e = sym (settled-not k 0 o f (λ y. found_number x (ap number_of e ∙ y)))
-  taken_settled (tally.Refused why) k e = sym (settled-not k 0 o f (λ y. refused_number why (ap number_of e ∙ y)))
+  taken_settled (Ok c) k e = let r = rule_clean o f numbered e in sym (settled_is k 0 r.0 r.1)
+  taken_settled (Err x) k e = sym (settled-not k 0 o f (λ y. fault_number x (ap number_of e ∙ y)))
 
 -- what is taken is the same of as many paths, where entries come
-taken_same : (t : Tally) (k j : ℕ) → ((c : ℕ) → t ≡ tally.Whole c → k ≡ j) → taken_of t k ≡ taken_of t j
-taken_same (tally.Whole c) k j h = h c refl
-taken_same (tally.Found x) k j h = refl
-taken_same (tally.Refused why) k j h = refl
+taken_same : (t : Tally) (k j : ℕ) → ((c : ℕ) → t ≡ Ok c → k ≡ j) → taken_of t k ≡ taken_of t j
+taken_same (Ok c) k j h = h c refl
+taken_same (Err x) k j h = refl
 
 -- what is taken is no more than the paths are, where entries come
-taken_most : (t : Tally) (k most : ℕ) → ((c : ℕ) → t ≡ tally.Whole c → k ≤ most) → taken_of t k ≤ most
-taken_most (tally.Whole c) k most h = h c refl
-taken_most (tally.Found x) k most h = omega arith
-taken_most (tally.Refused why) k most h = omega arith
+taken_most : (t : Tally) (k most : ℕ) → ((c : ℕ) → t ≡ Ok c → k ≤ most) → taken_of t k ≤ most
+taken_most (Ok c) k most h = h c refl
+taken_most (Err x) k most h = omega arith
 
 -- ---- the columns as entries
 
@@ -132,13 +126,13 @@ module _ (w : ℕ) (targets places counts : List ℕ) (fails : Failed) (i : ℕ)
 
 -- ---- what is gathered
 
+pub capped-is : (room : ℕ) {m : ℕ} → m ≡ min room MOST → m ≡ capped room
+unfolding capped
+capped-is room e = e
+
 pub capped-most : (room : ℕ) {m : ℕ} → m ≡ capped room → m ≤ MOST
 unfolding capped
-capped-most room {m} e = rw e (go (ltb room MOST) refl)
-  where
-    go : (b : Bool) → ltb room MOST ≡ b → pick b room MOST ≤ MOST
-    go true l = omega (arith, ltb-true room MOST l)
-    go false l = omega arith
+capped-most room {m} e = omega arith
 
 -- the columns that are lent are as long as there is room, up to the most
 pub capped-length : (room : ℕ) (zeros : List ℕ) {m : ℕ} → length zeros ≡ MOST → m ≡ capped room → length (take m zeros) ≡ m
@@ -209,7 +203,7 @@ module _ (q : Asked) (many : order.first q.faults ≡ none → length q.targets 
     fits = omega (arith, e, taken_most t k room (λ c w. let r = whole_clean c w in (room_for r.0 r.1).1));
   }
     where
-      whole_clean : (c : ℕ) → t ≡ tally.Whole c → (asked ≡ none) × (first ≡ clean)
+      whole_clean : (c : ℕ) → t ≡ Ok c → (asked ≡ none) × (first ≡ clean)
       whole_clean c w = rule_clean asked first numbered (sym (ap (λ (x : Tally). verdict_told (verdict_of x)) w) ∙ ruled)
 
       e : r ≡ taken_of t k

@@ -6,9 +6,8 @@ use Rattle.paths.specs.Rules.{span}
 use Rattle.paths.specs.Fan.{hops}
 use Rattle.paths.specs.Whole.{Failed, whole}
 use Rattle.judge.specs.Says.{Asked, asked_against, asked_finding, asked_told}
-use Rattle.survivors.specs.Tally.{Tallied, tallied, tally_told}
+use Rattle.survivors.specs.Tally.{Tally, Tallied, tallied, tally_told}
 use Rattle.survivors.specs.Says.{settled, scarce}
-use Rattle.survivors.specs.declared.Tally.{Tally}
 use Rattle.entries.specs.declared.Entry.{Entry}
 
 -- ---- entries

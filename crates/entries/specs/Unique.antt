@@ -1,6 +1,6 @@
 -- The promise leaves one tally and one content of the list (`listed_unique`); the tally is the one that columns as long as the list give
 -- (`listed_agrees`), and after a count the entry of each path is what the promise says of it (`listed_at`). Assumes nothing.
-use Rattle.std.specs.Prelude.{ℕ, zero, suc, ◌<◌, ◌≡◌, Bool, true, List, [], ◌∷◌, ◌++◌, length, drop, get_or}
+use Rattle.std.specs.Prelude.{ℕ, zero, suc, ◌<◌, ◌≡◌, Bool, true, List, [], ◌∷◌, ◌++◌, Ok, length, drop, get_or}
 use Rattle.std.proofs.Common.{sym, ap, ◌∙◌, arith}
 use Rattle.std.proofs.Math.Decide.{ℕ_discrete}
 use Rattle.std.proofs.Math.ListN.{get_or-append}
@@ -10,12 +10,10 @@ use Rattle.paths.specs.Rules.{span}
 use Rattle.paths.specs.Whole.{Failed, whole}
 use Rattle.judge.specs.Says.{verdict_told, Asked, asked_against, asked_finding, asked_told}
 use Rattle.judge.specs.Numbers.{findings_numbered, rule_clean}
-use Rattle.survivors.specs.Tally.{tallied, ruling_of, verdict_of}
+use Rattle.survivors.specs.Tally.{Tally, tallied, ruling_of, verdict_of}
 use Rattle.survivors.specs.Says.{few, settled, scarce, SurvivedZoned}
 use Rattle.survivors.specs.Laws.{settled_is}
 use Rattle.survivors.specs.Unique.{tally_unique}
-use Rattle.survivors.specs.declared.Tally.{Tally}
-use Rattle.survivors.specs.declared.Tally.TheVariants as tally
 use Rattle.entries.specs.Says.{path_entry, entries, Listed}
 use Rattle.entries.specs.Filling.{entries-length}
 use Rattle.entries.specs.Laws.{scarce_alike}
@@ -54,7 +52,7 @@ entries_at f (suc k) i d h = go (ℕ_discrete i k) (λ l. entries_at f k i d l)
 
 -- entry i of what was counted
 pub listed_at : (q : Asked) (places counts zones : List ℕ) (fails : Failed) (out out₁ : List Entry) (r : Tally) (c i : ℕ) (d : Entry)
-    → Listed q places counts zones fails out r out₁ → r ≡ tally.Whole c → i < length q.targets → get_or out₁ i d ≡ path_entry q places counts zones fails i
+    → Listed q places counts zones fails out r out₁ → r ≡ Ok c → i < length q.targets → get_or out₁ i d ≡ path_entry q places counts zones fails i
 listed_at q places counts zones fails out out₁ r c i d p e h =
     let f = path_entry q places counts zones fails in
     let k = length q.targets in

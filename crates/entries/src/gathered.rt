@@ -6,8 +6,8 @@ ghost use Rattle.judge.specs.Says.{fan_asked, bundle_asked};
 ghost use Rattle.entries.specs.Gathered.{MOST, capped, taken_of, entry_at, Gathers};
 
 use crate::Entry;
+use judge::Fault;
 use mesh::Mesh;
-use survivors::Tally;
 
 // The most entries: no relay has more links.
 const MOST: usize = mesh::ANY_LINKS;
@@ -15,7 +15,7 @@ const MOST: usize = mesh::ANY_LINKS;
 // What comes back, how many entries there are to write (none of a refusal or a finding), and their columns.
 #[derive(Clone, Copy)]
 pub struct Gathered {
-    pub tally: Tally,
+    pub tally: Result<u64, Fault>,
     pub k: usize,
     pub ends: [u64; MOST],
     pub hops: [u64; MOST],
@@ -24,20 +24,6 @@ pub struct Gathered {
 }
 
 impl Gathered {
-    // What comes back.
-    pub fn told(self) -> Tally
-        ensures { result ≡ self.tally }
-    {
-        self.tally
-    }
-
-    // How many entries there are to write.
-    pub fn count(self) -> usize
-        ensures { result ≡ self.k }
-    {
-        self.k
-    }
-
     // Entry i of the columns.
     pub fn entry(self, i: usize) -> Entry
         requires { i < MOST }
@@ -52,24 +38,13 @@ impl Gathered {
     }
 }
 
-// As many as there is room for, up to the most.
-fn most(room: usize) -> usize
-    ensures { result ≡ capped room }
-{
-    if room < MOST {
-        return room;
-    }
-    MOST
-}
-
 // How many entries a tally comes with, of k paths.
-fn taken(t: Tally, k: usize) -> usize
-    ensures { result ≡ taken_of t k }
+fn taken(tally: Result<u64, Fault>, k: usize) -> usize
+    ensures { result ≡ taken_of tally k }
 {
-    match t {
-        Tally::Whole(_) => k,
-        Tally::Found(_) => 0,
-        Tally::Refused(_) => 0,
+    match tally {
+        Ok(_) => k,
+        Err(_) => 0,
     }
 }
 
@@ -87,7 +62,7 @@ pub fn gather<'b>(
 ) -> Gathered
     ensures { Gathers (fan_asked (kind_of mesh.kind) mesh.size source targets.now) places.now counts.now zones.now (failed stopped.now cuts.now) room result }
 {
-    let n = most(room);
+    let n = room.min(MOST);
     let mut ends = [0u64; MOST];
     let mut hops = [0u64; MOST];
     let mut wholes = [0u64; MOST];
@@ -108,11 +83,11 @@ pub fn gather<'b>(
     );
     let k = taken(tally, targets.len());
     Gathered {
-        tally: tally,
-        k: k,
-        ends: ends,
-        hops: hops,
-        wholes: wholes,
+        tally,
+        k,
+        ends,
+        hops,
+        wholes,
         zones: sites,
     }
 }
@@ -131,7 +106,7 @@ pub fn gather_bundle<'b>(
 ) -> Gathered
     ensures { Gathers (bundle_asked (kind_of mesh.kind) mesh.size source target) places.now counts.now zones.now (failed stopped.now cuts.now) room result }
 {
-    let n = most(room);
+    let n = room.min(MOST);
     let mut ends = [0u64; MOST];
     let mut hops = [0u64; MOST];
     let mut wholes = [0u64; MOST];
@@ -153,11 +128,11 @@ pub fn gather_bundle<'b>(
     let paths = columns::bundle_paths(mesh);
     let k = taken(tally, paths);
     Gathered {
-        tally: tally,
-        k: k,
-        ends: ends,
-        hops: hops,
-        wholes: wholes,
+        tally,
+        k,
+        ends,
+        hops,
+        wholes,
         zones: sites,
     }
 }

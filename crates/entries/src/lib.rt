@@ -12,8 +12,8 @@ ghost use Rattle.entries.specs.Gathered.{stored};
 ghost use Rattle.entries.specs.Needs.{Fits};
 
 use gathered::Gathered;
+use judge::Fault;
 use mesh::Mesh;
-use survivors::Tally;
 
 // One path of a fan or a bundle: its target, its hops, whether it is whole, and its zone, which is lent in.
 #[repr(C)]
@@ -27,17 +27,14 @@ pub struct Entry {
 
 // Stores the gathered entries at the front of the list, and gives on what comes back. The loop stands here, so that `survivors` and
 // `bundle_survivors`, which are lent more, have none.
-fn store<'a>(g: Gathered, out: &'a mut [Entry]) -> Tally
+fn store<'a>(g: Gathered, out: &'a mut [Entry]) -> Result<u64, Fault>
     requires { Fits g (length out.old) }
     ensures { (result ≡ g.tally) × (out.new ≡ stored g out.old) }
 {
-    let k = g.count();
-    let mut i: usize = 0;
-    while i < k {
+    for i in 0..g.k {
         out[i] = g.entry(i);
-        i += 1;
     }
-    g.told()
+    g.tally
 }
 
 // Of a fan from the source to the targets, an entry for each path, in the targets' order, at the front of `out`; the entries after those stay.
@@ -53,7 +50,7 @@ pub fn survivors<'a, 'b>(
     stopped: &'b [u64],
     cuts: &'b [u64],
     out: &'a mut [Entry],
-) -> Tally
+) -> Result<u64, Fault>
     ensures { Listed (fan_asked (kind_of mesh.kind) mesh.size source targets.now) places.now counts.now zones.now (failed stopped.now cuts.now) out.old result out.new }
 {
     let g = gathered::gather(
@@ -83,7 +80,7 @@ pub fn bundle_survivors<'a, 'b>(
     stopped: &'b [u64],
     cuts: &'b [u64],
     out: &'a mut [Entry],
-) -> Tally
+) -> Result<u64, Fault>
     ensures { Listed (bundle_asked (kind_of mesh.kind) mesh.size source target) places.now counts.now zones.now (failed stopped.now cuts.now) out.old result out.new }
 {
     let g = gathered::gather_bundle(

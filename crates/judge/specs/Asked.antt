@@ -6,11 +6,8 @@ use Rattle.std.proofs.Common.{sym, ap, ◌∙◌, arith, ltb-false}
 use Rattle.std.proofs.Math.Option.{Option, none, some}
 use Rattle.std.proofs.lemmas.List.{length-replicate}
 use Rattle.scan.specs.Scan.{pick}
-use Rattle.answers.specs.Order.{Fault, first, refuse, before, refuse-none, append-none, room_faults}
-use Rattle.answers.specs.Pairs.{room-last, room_refused, room-short, room_granted}
-use Rattle.answers.specs.Told.{against}
-use Rattle.answers.specs.declared.Checked.{Checked}
-use Rattle.answers.specs.declared.Checked.TheVariants as checked
+use Rattle.answers.specs.Order.{Fault, first, refuse, before, refuse-none, append-none, handed, asked_next, room_faults}
+use Rattle.answers.specs.Pairs.{room-last}
 use Rattle.answers.specs.declared.Refusal.{Refusal}
 use Rattle.answers.specs.declared.Refusal.TheVariants.{NoRoom}
 use Rattle.paths.specs.Mesh.{Mesh, width}
@@ -64,26 +61,32 @@ module _ (q : Asked) (places counts : List ℕ) (lacking : Bool) where
   telling : {o : Option Refusal} → o ≡ asked_against q places counts lacking → rule o (asked_finding q places counts) ≡ asked_told q places counts lacking
   telling p = ap (λ (o : Option Refusal). rule o (asked_finding q places counts)) p
 
-module _ (q : Asked) (places counts : List ℕ) (lacking : Bool) {r : Checked} (e : against r ≡ first q.faults) where
-  pub told_refused : {why : Refusal} → r ≡ checked.Refused why → rule (some why) clean ≡ asked_told q places counts lacking
-  told_refused f = telling q places counts lacking (room_refused q.faults (pick lacking true (cramped q places counts)) e f)
+  pub told_refused : {why : Refusal} → some why ≡ first q.faults → rule (some why) clean ≡ asked_told q places counts lacking
+  told_refused e = telling (handed q.faults (room_faults (pick lacking true (cramped q places counts))) e)
 
-  -- the flag is what code has of the want of room
-  module _ (f : r ≡ checked.Fine) {short flag : Bool} (s : short ≡ cramped q places counts) (w : flag ≡ pick lacking true short) where
-    flagged : flag ≡ pick lacking true (cramped q places counts)
-    flagged = w ∙ ap (pick lacking true) s
+  -- whether room is wanted, as code has it: something is lacking, or else the slices are short
+  abbrev wanted : Bool
+  wanted = pick lacking true (cramped q places counts)
 
-    pub told-short : flag ≡ true → rule (some NoRoom) clean ≡ asked_told q places counts lacking
-    told-short t = telling q places counts lacking (room-short q.faults (pick lacking true (cramped q places counts)) e f flagged t)
+  pub by_lack : lacking ≡ true → wanted ≡ true
+  by_lack t = ap (λ (b : Bool). pick b true (cramped q places counts)) t
 
-    granted : flag ≡ false → none ≡ asked_against q places counts lacking
-    granted t = room_granted q.faults (pick lacking true (cramped q places counts)) e f flagged t
+  pub by_short : {short b : Bool} → lacking ≡ false → short ≡ cramped q places counts → short ≡ b → wanted ≡ b
+  by_short f s t = ap (λ (b : Bool). pick b true (cramped q places counts)) f ∙ sym s ∙ t
 
-    pub told_granted : flag ≡ false → rule none (asked_finding q places counts) ≡ asked_told q places counts lacking
-    told_granted t = telling q places counts lacking (granted t)
+  -- nothing else stands against it
+  module _ (e : none ≡ first q.faults) where
+    by_room : {b : Bool} → wanted ≡ b → refuse b NoRoom none ≡ asked_against q places counts lacking
+    by_room w = ap (λ (b : Bool). refuse b NoRoom none) (sym w) ∙ asked_next q.faults (room_faults wanted) e refl
 
-    pub passed : flag ≡ false → Passed q (length places) (length counts) lacking
-    passed t = asked_passed q places counts lacking (sym (granted t))
+    pub told-short : wanted ≡ true → rule (some NoRoom) clean ≡ asked_told q places counts lacking
+    told-short w = telling (by_room w)
+
+    pub told_granted : wanted ≡ false → rule none (asked_finding q places counts) ≡ asked_told q places counts lacking
+    told_granted w = telling (by_room w)
+
+    pub passed : wanted ≡ false → Passed q (length places) (length counts) lacking
+    passed w = asked_passed q places counts lacking (sym (by_room w))
 
 -- ---- a bundle
 

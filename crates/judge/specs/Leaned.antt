@@ -2,7 +2,7 @@
 -- (`judged_least`; of a bundle `judged_bundle_least`); and a plain route that is told, of two relays in a mesh of any size and kind, written over a slice of fillers, is a fan of one target that
 -- it passes (`route-judged`). Assumes nothing.
 use Prim.Native.Nat.{ℕ, zero, suc, ◌+◌, ◌*◌, ◌≤◌, ◌<◌}
-use Rattle.std.specs.Prelude.{◌≡◌, refl, Bool, true, false, ◌≢◌, List, [], ◌∷◌, length, drop, get_or}
+use Rattle.std.specs.Prelude.{◌≡◌, refl, Bool, true, false, ◌≢◌, Result, Ok, Err, ⊤, List, [], ◌∷◌, length, drop, get_or}
 use Rattle.std.proofs.Common.{sym, ap, ◌∙◌, subst, length-append, length-drop, ne_eqb, le-ltb}
 use Rattle.std.proofs.Math.Option.{none}
 use native.Mathlib.Omega.{arith}
@@ -24,17 +24,16 @@ use Rattle.mesh.specs.Plain.{Left, route-left, route-fan}
 use Rattle.mesh.specs.Metric.{Far, told-fan, told_bundle}
 use Rattle.judge.specs.Says.{verdict_told, judge_against, judge_told, bundle_told}
 use Rattle.judge.specs.Judged.{judged-fan, fan-judged, judged_bundle}
-use Rattle.judge.specs.declared.Verdict.{Verdict}
-use Rattle.judge.specs.declared.Verdict.TheVariants as verdict
+use Rattle.judge.specs.declared.Fault.{Fault}
 
-pub judged_least : (k n s : ℕ) (targets places counts : List ℕ) (lacking : Bool) (v : Verdict)
-    → verdict_told v ≡ judge_told (kind_of k) n s targets places counts lacking → v ≡ verdict.Fan
+pub judged_least : (k n s : ℕ) (targets places counts : List ℕ) (lacking : Bool) (v : Result ⊤ Fault)
+    → verdict_told v ≡ judge_told (kind_of k) n s targets places counts lacking → v ≡ Ok tt
     → (i d : ℕ) → i < length targets → Far k n s (get_or targets i 0) d → d ≤ hops counts i
 judged_least k n s targets places counts lacking v says e i d h far =
     told-fan k n s (get_or targets i 0) d targets places counts i far (judged-fan (kind_of k) n s targets places counts lacking v says e).1 h refl
 
-pub judged_bundle_least : (k n s t : ℕ) (places counts : List ℕ) (lacking : Bool) (v : Verdict)
-    → verdict_told v ≡ bundle_told (kind_of k) n s t places counts lacking → v ≡ verdict.Fan
+pub judged_bundle_least : (k n s t : ℕ) (places counts : List ℕ) (lacking : Bool) (v : Result ⊤ Fault)
+    → verdict_told v ≡ bundle_told (kind_of k) n s t places counts lacking → v ≡ Ok tt
     → (i d : ℕ) → i < (mesh_of k n).links → Far k n s t d → d ≤ hops counts i
 judged_bundle_least k n s t places counts lacking v says e i d h far =
     told_bundle k n s t d places counts i far (judged_bundle (kind_of k) n s t places counts lacking v says e).1 h
@@ -84,7 +83,7 @@ module _ (k n s t : ℕ) (out : List ℕ) (h : ℕ) (e : route_told (kind_of k) 
       ap length left.left ∙ length-append route (drop (h + 1) out) ∙ whole
 
   pub route-judged : s ≢ t → width (mesh_of k n) ≤ length out → ((p : ℕ) → h < p → p ≤ (mesh_of k n).longest → get_or out p 0 ≡ filler)
-      → (v : Verdict) → verdict_told v ≡ judge_told (kind_of k) n s (t ∷ []) (route_leaves (kind_of k) n s t out) (h ∷ []) false → v ≡ verdict.Fan
+      → (v : Result ⊤ Fault) → verdict_told v ≡ judge_told (kind_of k) n s (t ∷ []) (route_leaves (kind_of k) n s t out) (h ∷ []) false → v ≡ Ok tt
   route-judged ne room filled v says =
       fan-judged (kind_of k) n s (t ∷ []) (route_leaves (kind_of k) n s t out) (h ∷ []) false v says
       (one-against k n s t left.size left.source left.target ne (route_leaves (kind_of k) n s t out) h (linked ne) (omega (arith, long)))

@@ -116,11 +116,11 @@ module _ (l : Look) where
   pub right-start : {x : ℕ} → x ≡ here 0 → x ≡ l.s → from22 ≡ from21
   right-start e f = passed (found 21 l.i 0) from22 (agrees 0 l.s e f)
 
-  pub wrong_link : {sp : Spot} {p : ℕ} → sp ≡ link_spot → sp ≡ at p → found 22 l.i p ≡ from22
-  wrong_link e f = reported_at (found 22 l.i) from23 (sym links_sought ∙ sym e ∙ f)
+  pub wrong_link : {p : ℕ} → at p ≡ link_spot → found 22 l.i p ≡ from22
+  wrong_link e = reported_at (found 22 l.i) from23 (sym links_sought ∙ sym e)
 
-  pub right-links : {sp : Spot} → sp ≡ link_spot → sp ≡ nowhere → from23 ≡ from22
-  right-links e f = passed_by (found 22 l.i) from23 (sym links_sought ∙ sym e ∙ f)
+  pub right-links : nowhere ≡ link_spot → from23 ≡ from22
+  right-links e = passed_by (found 22 l.i) from23 (sym links_sought ∙ sym e)
 
   pub wrong_end : {x : ℕ} → x ≡ here h → x ≢ l.t → found 23 l.i h ≡ from23
   wrong_end e ne = reported (found 23 l.i h) from24 (differs h l.t e ne)
@@ -128,14 +128,14 @@ module _ (l : Look) where
   pub right_end : {x : ℕ} → x ≡ here h → x ≡ l.t → from24 ≡ from23
   right_end e f = passed (found 23 l.i h) from24 (agrees h l.t e f)
 
-  pub seen_again : {sp : Spot} {p : ℕ} → sp ≡ seen_spot → sp ≡ at p → found 24 l.i p ≡ from24
-  seen_again e f = reported_at (found 24 l.i) from25 (sym seen_sought ∙ sym e ∙ f)
+  pub seen_again : {p : ℕ} → at p ≡ seen_spot → found 24 l.i p ≡ from24
+  seen_again e = reported_at (found 24 l.i) from25 (sym seen_sought ∙ sym e)
 
-  pub none_seen : {sp : Spot} → sp ≡ seen_spot → sp ≡ nowhere → from25 ≡ from24
-  none_seen e f = passed_by (found 24 l.i) from25 (sym seen_sought ∙ sym e ∙ f)
+  pub none_seen : nowhere ≡ seen_spot → from25 ≡ from24
+  none_seen e = passed_by (found 24 l.i) from25 (sym seen_sought ∙ sym e)
 
-  pub not_filled : {sp : Spot} {p : ℕ} → sp ≡ fill_spot → sp ≡ at p → found 25 l.i p ≡ from25
-  not_filled e f = reported_at (found 25 l.i) clean (sym fill_sought ∙ sym e ∙ f)
+  pub not_filled : {p : ℕ} → at p ≡ fill_spot → found 25 l.i p ≡ from25
+  not_filled e = reported_at (found 25 l.i) clean (sym fill_sought ∙ sym e)
 
-  pub all_filled : {sp : Spot} → sp ≡ fill_spot → sp ≡ nowhere → clean ≡ from25
-  all_filled e f = passed_by (found 25 l.i) clean (sym fill_sought ∙ sym e ∙ f)
+  pub all_filled : nowhere ≡ fill_spot → clean ≡ from25
+  all_filled e = passed_by (found 25 l.i) clean (sym fill_sought ∙ sym e)

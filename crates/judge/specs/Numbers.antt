@@ -13,8 +13,10 @@ use Rattle.paths.specs.Mesh.{Mesh}
 use Rattle.paths.specs.Rules.{Rules, span, fan_rules}
 use Rattle.paths.specs.Fan.{relay, hops}
 use Rattle.paths.specs.Finding.{Finding, clean, found, report, report-at, unlinked_at, seen_at, unfilled_at, finding_of, finding_from, finding_by, finding}
-use Rattle.judge.specs.Says.{ruling, number_of, rule, named}
+use Rattle.judge.specs.Says.{ruling, number_of, rule, named, fault_told}
 use Rattle.judge.specs.declared.Finding as code
+use Rattle.judge.specs.declared.Fault.{Fault}
+use Rattle.judge.specs.declared.Fault.TheVariants as fault
 use Rattle.judge.specs.declared.Finding.TheVariants.{TooLong, NotFromSource, NotLinked, NotToTarget, SeenAgain, NotFilled}
 
 abbrev pub Numbered : Finding → Type 0
@@ -78,3 +80,7 @@ rule-zero (some why) f h e = absurd (refused_number why e)
 
 pub rule_clean : (o : Option Refusal) (f : Finding) → Numbered f → ruling 0 0 0 ≡ rule o f → (o ≡ none) × (f ≡ clean)
 rule_clean o f h e = rule-zero o f h (sym (ap number_of e))
+
+pub fault_number : (f : Fault) → number_of (fault_told f) ≢ 0
+fault_number (fault.Found f) = found_number f
+fault_number (fault.Refused why) = refused_number why

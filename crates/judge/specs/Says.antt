@@ -1,6 +1,6 @@
 -- What a verdict tells: the specification's number, path and place. All are 0 where nothing is found; of a refusal the path is 0. What is judged is one
 -- record (`Asked`), of which a fan and a bundle are the two values, and what is told of it one definition (`asked_told`). Definitions; assumes nothing.
-use Rattle.std.specs.Prelude.{ℕ, ◌*◌, Bool, true, List, ◌++◌, ltb, length}
+use Rattle.std.specs.Prelude.{ℕ, ◌*◌, Bool, true, List, ◌++◌, Result, Ok, Err, ⊤, ltb, length}
 use Rattle.std.proofs.Math.Option.{Option, none, some}
 use Rattle.scan.specs.Scan.{pick}
 use Rattle.answers.specs.Order.{Fault, first, end_faults, request_faults, room_faults}
@@ -13,10 +13,8 @@ use Rattle.mesh.specs.Kinds.{Kind}
 use Rattle.mesh.specs.Says.{size_faults_in, served_faults_in}
 use Rattle.judge.specs.declared.Finding as code
 use Rattle.judge.specs.declared.Finding.TheVariants.{TooLong, NotFromSource, NotLinked, NotToTarget, SeenAgain, NotFilled}
-use Rattle.judge.specs.declared.Verdict.{Verdict}
-use Rattle.judge.specs.declared.Verdict.TheVariants as verdict
-use Rattle.judge.specs.declared.Search.{Search}
-use Rattle.judge.specs.declared.Search.TheVariants as search
+use Rattle.judge.specs.declared.Fault as declared
+use Rattle.judge.specs.declared.Fault.TheVariants as fault
 
 -- number, path and place
 pub data Ruling : Type 0 where
@@ -46,14 +44,22 @@ named (NotToTarget i p) = found 23 i p
 named (SeenAgain i p) = found 24 i p
 named (NotFilled i p) = found 25 i p
 
-abbrev pub search_of : Search → Finding
-search_of search.Clean = clean
-search_of (search.Found f) = named f
+-- what the look at a path ends with
+abbrev pub search_of : Result ⊤ code.Finding → Finding
+search_of (Ok x) = clean
+search_of (Err f) = named f
 
-abbrev pub verdict_told : Verdict → Ruling
-verdict_told verdict.Fan = rule none clean
-verdict_told (verdict.Found f) = rule none (named f)
-verdict_told (verdict.Refused why) = rule (some why) clean
+-- what is told of a finding, of what stands against a set of paths, and of a verdict, in which nothing may
+abbrev pub found_told : code.Finding → Ruling
+found_told f = rule none (named f)
+
+abbrev pub fault_told : declared.Fault → Ruling
+fault_told (fault.Found f) = found_told f
+fault_told (fault.Refused why) = rule (some why) clean
+
+abbrev pub verdict_told : Result ⊤ declared.Fault → Ruling
+verdict_told (Ok x) = rule none clean
+verdict_told (Err f) = fault_told f
 
 -- ---- what is judged
 

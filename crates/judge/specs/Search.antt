@@ -13,10 +13,8 @@ use Rattle.paths.specs.Rules.{Rules, span}
 use Rattle.paths.specs.Finding.{Finding, clean, found, report, report-at, finding_of, finding_from, finding_by}
 use Rattle.paths.specs.Places.{row_below}
 use Rattle.paths.specs.Clear.{path_clear}
-use Rattle.judge.specs.Says.{named, search_of}
+use Rattle.judge.specs.Says.{named}
 use Rattle.judge_rows.specs.Needs.{Held}
-use Rattle.judge.specs.declared.Search.{Search}
-use Rattle.judge.specs.declared.Search.TheVariants as search
 use Rattle.judge.specs.declared.Finding as code
 use Rattle.judge.specs.declared.Finding.TheVariants.{TooLong, NotFromSource, NotLinked, NotToTarget, SeenAgain, NotFilled}
 
@@ -95,8 +93,8 @@ module _ (r : Rules) (s : ℕ) (targets places counts : List ℕ) where
       let c = (path_clear r s (get_or targets i 0) places counts i clean e).0 in
       record { counted = omega (arith, v.counted); row = record { room = search_room v l; short = omega (arith, c.short, v.wide) } }
 
-  pub search_goes_on : {w i : ℕ} {a : Search} → Searched w i → i < length targets → a ≡ search.Clean → search_of a ≡ path i → Searched w (i + 1)
-  search_goes_on {w} {i} {a} v l g f = record {
+  pub search_goes_on : {w i : ℕ} → Searched w i → i < length targets → clean ≡ path i → Searched w (i + 1)
+  search_goes_on {w} {i} v l nothing = record {
     wide = v.wide;
     room = v.room;
     counted = v.counted;
@@ -104,17 +102,13 @@ module _ (r : Rules) (s : ℕ) (targets places counts : List ℕ) where
     held = λ j h. go j h (ℕ_discrete j i);
   }
     where
-      nothing : clean ≡ path i
-      nothing = sym (ap search_of g) ∙ f
-
       go : (j : ℕ) → j < i + 1 → Dec (j ≡ i) → Held w (length places) counts j
       go j h (yes d) = rw d (clean_held v l (sym nothing))
       go j h (no ne) = v.held j (omega arith)
 
-  pub search_finds : {w i : ℕ} {f : code.Finding} {a : Search} → Searched w i → i < length targets → a ≡ search.Found f → search_of a ≡ path i
-      → named f ≡ finding_by r s targets places counts
-  search_finds {w} {i} {f} {a} v l g e =
-      sym (before-named f (from (i + 1))) ∙ ap (λ (x : Finding). before x (from (i + 1))) (sym (ap search_of g) ∙ e) ∙ sym (from-path i l) ∙ v.rest
+  pub search_finds : {w i : ℕ} (f : code.Finding) → Searched w i → i < length targets → named f ≡ path i → named f ≡ finding_by r s targets places counts
+  search_finds {w} {i} f v l e =
+      sym (before-named f (from (i + 1))) ∙ ap (λ (x : Finding). before x (from (i + 1))) e ∙ sym (from-path i l) ∙ v.rest
 
   pub search_ends : {w i : ℕ} → Searched w i → length targets ≤ i → clean ≡ finding_by r s targets places counts
   unfolding finding_from

@@ -1,5 +1,5 @@
 -- Findings 22, 24 and 25 at a place, test by test as code goes through them (`out_of_range` to `filled`). Assumes nothing.
-use Rattle.std.specs.Prelude.{ℕ, ◌-◌, ◌*◌, ◌≤◌, ◌<◌, ◌≡◌, refl, Bool, true, false, ◌≢◌, List, eqb, leb, get_or}
+use Rattle.std.specs.Prelude.{ℕ, ◌-◌, ◌*◌, ◌≤◌, ◌<◌, ◌≡◌, refl, Bool, true, false, ◌≢◌, ◌&&◌, List, eqb, leb, get_or}
 use Rattle.std.proofs.Common.{sym, ◌∙◌, arith, le-leb, eq-eqb, ne_eqb}
 use Rattle.std.proofs.Math.Path.{ap, ap₂}
 use Rattle.std.proofs.Math.Bool.{not}
@@ -63,23 +63,6 @@ module _ (r : Rules) {w : ℕ} (places counts : List ℕ) (i p : ℕ) {x : ℕ} 
     pub seen-before : {q : Bool} → c ≡ false → q ≡ any (on w places counts x) 0 i → q ≡ seen r places counts i p
     seen-before n z = z ∙ ap earlier (sym n) ∙ not-on_this
 
--- where two paths may meet, in each mode
-module _ (r : code.Rules) (h p : ℕ) where
-  pub excepted-start : p ≡ 0 → true ≡ (rules_of r).excepted h p
-  excepted-start z = go r.mode
-    where
-      go : (m : code-mode.Mode) → true ≡ (rules_in m (mesh_of r.mesh.kind r.mesh.size)).excepted h p
-      go mode.Fan = sym (eq-eqb p 0 z)
-      go mode.Bundle = ap (λ (b : Bool). pick b true (eqb p h)) (sym (eq-eqb p 0 z))
-
-  pub excepted-fan : r.mode ≡ mode.Fan → p ≢ 0 → false ≡ (rules_of r).excepted h p
-  excepted-fan e ne = sym (ne_eqb p 0 ne) ∙ ap (λ (m : code-mode.Mode). (rules_in m (mesh_of r.mesh.kind r.mesh.size)).excepted h p) (sym e)
-
-  pub excepted_bundle : {b : Bool} → r.mode ≡ mode.Bundle → p ≢ 0 → b ≡ eqb p h → b ≡ (rules_of r).excepted h p
-  excepted_bundle e ne f =
-      f ∙ ap (λ (b : Bool). pick b true (eqb p h)) (sym (ne_eqb p 0 ne))
-      ∙ ap (λ (m : code-mode.Mode). (rules_in m (mesh_of r.mesh.kind r.mesh.size)).excepted h p) (sym e)
-
 module _ (r : code.Rules) (counts : List ℕ) (i p : ℕ) where
   abbrev mesh : Mesh
   mesh = mesh_of r.mesh.kind r.mesh.size
@@ -92,26 +75,30 @@ module _ (r : code.Rules) (counts : List ℕ) (i p : ℕ) where
   pub twinned-fan : r.mode ≡ mode.Fan → false ≡ twinned (rules_of r) counts i p
   twinned-fan e = sym (false-any (λ j. false) 0 i (λ j l g. refl)) ∙ in_mode e
 
-  module _ (e : r.mode ≡ mode.Bundle) where
-    pub twinned_elsewhere : p ≢ 1 → false ≡ twinned (rules_of r) counts i p
-    twinned_elsewhere ne =
-        sym (false-any (λ j. (rules_in mode.Bundle mesh).twin (hops counts i) p (hops counts j)) 0 i
-        (λ j l g. ap (λ (b : Bool). pick b (pick (eqb (hops counts i) 1) (eqb (hops counts j) 1) false) false) (ne_eqb p 1 ne)))
-        ∙ in_mode e
+  -- of a bundle, as code has it: whether the place is 1, and the path of h hops is the bare link
+  module _ {h : ℕ} (e : r.mode ≡ mode.Bundle) (f : h ≡ hops counts i) where
+    abbrev twin_at : (g : ℕ) → Bool
+    twin_at g = pick (eqb p 1) (pick (eqb h 1) (eqb g 1) false) false
 
-    pub twinned-longer : hops counts i ≢ 1 → false ≡ twinned (rules_of r) counts i p
-    twinned-longer ne = sym (false-any (λ j. (rules_in mode.Bundle mesh).twin (hops counts i) p (hops counts j)) 0 i (λ j l g. go (eqb p 1) j)) ∙ in_mode e
+    in_bundle : any (λ j. twin_at (hops counts j)) 0 i ≡ twinned (rules_of r) counts i p
+    in_bundle = ap (λ (x : ℕ). any (λ j. pick (eqb p 1) (pick (eqb x 1) (eqb (hops counts j) 1) false) false) 0 i) f ∙ in_mode e
+
+    pub twinned-not : (eqb p 1 && eqb h 1) ≡ false → false ≡ twinned (rules_of r) counts i p
+    twinned-not t = sym (false-any (λ j. twin_at (hops counts j)) 0 i (λ j l g. go (eqb p 1) (eqb h 1) (eqb (hops counts j) 1) t)) ∙ in_bundle
       where
-        go : (b : Bool) (j : ℕ) → pick b (pick (eqb (hops counts i) 1) (eqb (hops counts j) 1) false) false ≡ false
-        go true j = ap (λ (b : Bool). pick b (eqb (hops counts j) 1) false) (ne_eqb (hops counts i) 1 ne)
-        go false j = refl
+        go : (x y z : Bool) → (x && y) ≡ false → pick x (pick y z false) false ≡ false
+        go true true z t = cc
+        go true false z t = refl
+        go false y z t = refl
 
-    pub twinned_bare : {b : Bool} → p ≡ 1 → hops counts i ≡ 1 → b ≡ among counts 0 i 1 → b ≡ twinned (rules_of r) counts i p
+    pub twinned_bare : {b : Bool} → (eqb p 1 && eqb h 1) ≡ true → b ≡ among counts 0 i 1 → b ≡ twinned (rules_of r) counts i p
     unfolding among hops
-    twinned_bare f g z =
-        z
-        ∙ ap₂ (λ (x y : Bool). any (λ j. pick x (pick y (eqb (get_or counts j 0) 1) false) false) 0 i) (sym (eq-eqb p 1 f)) (sym (eq-eqb (get_or counts i 0) 1 g))
-        ∙ in_mode e
+    twinned_bare t z = z ∙ go (eqb p 1) (eqb h 1) t ∙ in_bundle
+      where
+        go : (x y : Bool) → (x && y) ≡ true → any (λ j. eqb (get_or counts j 0) 1) 0 i ≡ any (λ j. pick x (pick y (eqb (get_or counts j 0) 1) false) false) 0 i
+        go true true t = refl
+        go true false t = cc
+        go false y t = cc
 
 -- ---- 25
 

@@ -11,7 +11,6 @@ ghost use Rattle.judge_rows.specs.Looked.{Looked};
 
 use mesh::Mesh;
 use paths::FILLER;
-use scan::Spot;
 
 // What a set of paths is to be: a fan, with paths from one source to each of its targets, or a bundle, with as many paths as links to one.
 #[derive(Clone, Copy)]
@@ -43,29 +42,22 @@ fn unlinked(rules: Rules, relays: u64, places: &[u64], i: usize, p: usize) -> bo
 {
     let w = rules.width;
     let v = relay(w, places, i, p);
-    if relays <= v {
-        return true;
-    }
-    let u = relay(w, places, i, p - 1);
-    let mesh = rules.mesh;
-    !mesh::joined(mesh, u, v)
+    relays <= v || !mesh::joined(rules.mesh, relay(w, places, i, p - 1), v)
 }
 
 // The first place of path i, of h hops, that is so.
-pub fn unlinked_at(rules: Rules, places: &[u64], i: usize, h: usize) -> Spot
+pub fn unlinked_at(rules: Rules, places: &[u64], i: usize, h: usize) -> Option<usize>
     requires { Laid rules (length places.now) i h }
     ensures { spot_of result ≡ seek (finding.unlinked (rules_of rules) places.now i) 1 h }
 {
     let mesh = rules.mesh;
     let relays = mesh::relays_in(mesh);
-    let mut p: usize = 1;
-    while p <= h {
+    for p in 1..h + 1 {
         if unlinked(rules, relays, places, i, p) {
-            return Spot::At(p);
+            return Some(p);
         }
-        p += 1;
     }
-    Spot::Nowhere
+    None
 }
 
 // Whether x stands on path j.
@@ -82,12 +74,10 @@ fn on_earlier(w: usize, places: &[u64], counts: &[u64], x: u64, i: usize) -> boo
     requires { (j : ℕ) → j < i → Held w (length places.now) counts.now j }
     ensures { result ≡ any (finding.on w places.now counts.now x) 0 i }
 {
-    let mut j: usize = 0;
-    while j < i {
+    for j in 0..i {
         if on(w, places, counts, x, j) {
             return true;
         }
-        j += 1;
     }
     false
 }
@@ -96,13 +86,9 @@ fn on_earlier(w: usize, places: &[u64], counts: &[u64], x: u64, i: usize) -> boo
 fn excepted(rules: Rules, h: usize, p: usize) -> bool
     ensures { result ≡ (rules_of rules).excepted h p }
 {
-    if p == 0 {
-        return true;
-    }
-    let mode = rules.mode;
-    match mode {
-        Mode::Fan => false,
-        Mode::Bundle => p == h,
+    match rules.mode {
+        Mode::Fan => p == 0,
+        Mode::Bundle => p == 0 || p == h,
     }
 }
 
@@ -111,17 +97,10 @@ fn twinned(rules: Rules, counts: &[u64], i: usize, h: usize, p: usize) -> bool
     requires { (i ≤ length counts.now) × (h ≡ fan.hops counts.now i) }
     ensures { result ≡ finding.twinned (rules_of rules) counts.now i p }
 {
-    let mode = rules.mode;
-    if let Mode::Fan = mode {
-        return false;
+    match rules.mode {
+        Mode::Fan => false,
+        Mode::Bundle => (p, h) == (1, 1) && scan::among(counts, 0, i, 1),
     }
-    if p != 1 {
-        return false;
-    }
-    if h != 1 {
-        return false;
-    }
-    scan::among(counts, 0, i, 1)
 }
 
 // 24: whether the relay at place p stands earlier on this path or, the excepted places left out, on an earlier one, or is a twin's.
@@ -160,10 +139,7 @@ fn seen_marked(
         return seen(rules, places, counts, i, p);
     }
     let h = counts[i] as usize;
-    if excepted(rules, h, p) {
-        return twinned(rules, counts, i, h, p);
-    }
-    false
+    excepted(rules, h, p) && twinned(rules, counts, i, h, p)
 }
 
 // The first place of path i, of h hops, that is so. Where there is none, the path's relays are marked too.
@@ -174,7 +150,7 @@ pub fn seen_at(
     counts: &[u64],
     i: usize,
     h: usize,
-) -> Spot
+) -> Option<usize>
     requires after { After rules (length places.now) counts.now i h }
     requires looked { Looked marks.old rules.width places.now counts.now i 0 }
     requires h_value { h ≡ fan.hops counts.now i }
@@ -182,30 +158,26 @@ pub fn seen_at(
     ensures looked_2 { spot_of result ≡ nowhere → Looked marks.new rules.width places.now counts.now (i + 1) 0 }
 {
     let w = rules.width;
-    let mut p: usize = 0;
-    while p <= h {
+    for p in 0..h + 1 {
         let x = relay(w, places, i, p);
         if seen_marked(rules, marks, places, counts, i, p, x) {
-            return Spot::At(p);
+            return Some(p);
         }
         marks::put(marks, x);
-        p += 1;
     }
-    Spot::Nowhere
+    None
 }
 
 // 25: the first unused place of path i, of h hops, that is not filled.
-pub fn unfilled_at(rules: Rules, places: &[u64], i: usize, h: usize) -> Spot
+pub fn unfilled_at(rules: Rules, places: &[u64], i: usize, h: usize) -> Option<usize>
     requires { Row rules.width (length places.now) i h }
     ensures { spot_of result ≡ seek (finding.unfilled rules.width places.now i) (h + 1) (rules.width - (h + 1)) }
 {
     let w = rules.width;
-    let mut p = h + 1;
-    while p < w {
+    for p in h + 1..w {
         if relay(w, places, i, p) != FILLER {
-            return Spot::At(p);
+            return Some(p);
         }
-        p += 1;
     }
-    Spot::Nowhere
+    None
 }

@@ -2,7 +2,7 @@
 // have been, and is looked for. Inner: called by other crates of the library, which meet the `requires`.
 #![tactic(auto)]
 
-ghost use Rattle.std.specs.Prelude.{◌≡◌, ◌<◌, length};
+ghost use Rattle.std.specs.Prelude.{◌≡◌, ◌/◌, ◌%◌, ◌<◌, length};
 ghost use Rattle.marks.specs.Marks as specs;
 
 // The words that marks take.
@@ -22,18 +22,17 @@ fn word(s: u64) -> usize
     (s / 16777216 % 256) as usize
 }
 
-// The two bits of the mark in that word.
-fn first(s: u64) -> u32
-    ensures { (result ≡ specs.first_at s) × (result < 64) }
+// One of the two bits of the mark in that word: the digits of the scattered number to the base 64 choose it, those at FIRST the first and those at SECOND the second.
+fn place<const UNIT: u64>(s: u64) -> u32
+    requires { 0 < UNIT }
+    ensures { (result ≡ s / UNIT % 64) × (result < 64) }
 {
-    (s / 4294967296 % 64) as u32
+    (s / UNIT % 64) as u32
 }
 
-fn second(s: u64) -> u32
-    ensures { (result ≡ specs.second_at s) × (result < 64) }
-{
-    (s / 262144 % 64) as u32
-}
+const FIRST: u64 = 4294967296;
+
+const SECOND: u64 = 262144;
 
 // Whether the relay has its mark. Most that have none have not even its first bit.
 pub fn marked(marks: &[u64], x: u64) -> bool
@@ -42,10 +41,7 @@ pub fn marked(marks: &[u64], x: u64) -> bool
 {
     let s = scatter(x);
     let w = marks[word(s)];
-    if bits::bit(w, first(s)) {
-        return bits::bit(w, second(s));
-    }
-    false
+    bits::bit(w, place::<FIRST>(s)) && bits::bit(w, place::<SECOND>(s))
 }
 
 // Gives the relay its mark.
@@ -55,7 +51,7 @@ pub fn put(marks: &mut [u64], x: u64)
 {
     let s = scatter(x);
     let i = word(s);
-    let one = bits::power(first(s));
-    let other = bits::power(second(s));
+    let one = bits::power(place::<FIRST>(s));
+    let other = bits::power(place::<SECOND>(s));
     marks[i] = marks[i] | one | other;
 }

@@ -10,10 +10,10 @@ pub fn put(value: u64, w: usize, at: usize, out: &mut [u8])
     requires { at + w ≤ length out.old }
     ensures { out.new ≡ sets out.old at (big w value) }
 {
-    if 0 < w {
-        let less = w - 1;
-        put(value / 256, less, at, out);
-        out[at + less] = (value % 256) as u8;
+    let mut rest = value;
+    for i in 0..w {
+        out[at + (w - 1 - i)] = (rest % 256) as u8;
+        rest /= 256;
     }
 }
 
@@ -23,34 +23,18 @@ pub fn number(bytes: &[u8], at: usize, w: usize) -> u64
     ensures { result ≡ number bytes.now at w }
 {
     let mut value: u64 = 0;
-    let mut i: usize = 0;
-    while i < w {
-        value = value * 256 + (bytes[at + i] as u64);
-        i += 1;
+    for byte in &bytes[at..at + w] {
+        value = value * 256 + u64::from(*byte);
     }
     value
 }
 
-// Writes the eight bytes of a number from the place `at` on, one after another with no call and no loop: a store and a byte swap, once compiled.
+// Writes the eight bytes of a number from the place `at` on: a store and a byte swap, once compiled.
 pub fn put_eight(value: u64, at: usize, out: &mut [u8])
     requires { at + 8 ≤ length out.old }
     ensures { out.new ≡ sets out.old at (big 8 value) }
 {
-    let a = value / 256;
-    let b = a / 256;
-    let c = b / 256;
-    let d = c / 256;
-    let e = d / 256;
-    let f = e / 256;
-    let g = f / 256;
-    out[at] = (g % 256) as u8;
-    out[at + 1] = (f % 256) as u8;
-    out[at + 2] = (e % 256) as u8;
-    out[at + 3] = (d % 256) as u8;
-    out[at + 4] = (c % 256) as u8;
-    out[at + 5] = (b % 256) as u8;
-    out[at + 6] = (a % 256) as u8;
-    out[at + 7] = (value % 256) as u8;
+    out[at..at + 8].copy_from_slice(&value.to_be_bytes());
 }
 
 // The number that eight bytes from the place `at` on are, read in the same way.
@@ -58,12 +42,7 @@ pub fn number_eight(bytes: &[u8], at: usize) -> u64
     requires { at + 8 ≤ length bytes.now }
     ensures { result ≡ number bytes.now at 8 }
 {
-    let a = bytes[at] as u64;
-    let b = a * 256 + (bytes[at + 1] as u64);
-    let c = b * 256 + (bytes[at + 2] as u64);
-    let d = c * 256 + (bytes[at + 3] as u64);
-    let e = d * 256 + (bytes[at + 4] as u64);
-    let f = e * 256 + (bytes[at + 5] as u64);
-    let g = f * 256 + (bytes[at + 6] as u64);
-    g * 256 + (bytes[at + 7] as u64)
+    let mut eight = [0u8; 8];
+    eight.copy_from_slice(&bytes[at..at + 8]);
+    u64::from_be_bytes(eight)
 }

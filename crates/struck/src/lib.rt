@@ -24,12 +24,10 @@ fn note_path(w: usize, places: &[u64], counts: &[u64], i: usize, d: usize, marks
     ensures { Noted (thing w places.now d) (things counts.now d) marks.new (i + 1) 0 }
 {
     let n = counts[i] as usize + 1 - d;
-    let mut p: usize = 0;
-    while p < n {
+    for p in 0..n {
         let u = judge_rows::relay(w, places, i, p);
         let v = judge_rows::relay(w, places, i, p + d);
         marks::put(marks, key(u, v));
-        p += 1;
     }
 }
 
@@ -40,10 +38,8 @@ fn note(w: usize, places: &[u64], counts: &[u64], k: usize, d: usize, marks: &mu
     requires marks_len { length marks.old ≡ words }
     ensures { Noted (thing w places.now d) (things counts.now d) marks.new k 0 }
 {
-    let mut i: usize = 0;
-    while i < k {
+    for i in 0..k {
         note_path(w, places, counts, i, d, marks);
-        i += 1;
     }
 }
 
@@ -64,11 +60,8 @@ fn hits(list: &[u64], d: usize, paths: &[u64], hit: &mut [u64])
     requires hit_len { length hit.old ≡ words }
     ensures { Hits list.now d paths.now hit.new }
 {
-    let n = list.len();
-    let mut j: usize = 0;
-    while d < n - j {
+    for j in 0..list.len().saturating_sub(d) {
         keep(paths, hit, key(list[j], list[j + d]));
-        j += 1;
     }
 }
 

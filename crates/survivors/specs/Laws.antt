@@ -1,6 +1,6 @@
 -- Why survivors keeps its promise: what it is to give where the judge finds nothing (`ready`, `survived`) and where not (`found_survived`,
 -- `refused_survived`), of a fan or a bundle. Assumes nothing.
-use Rattle.std.specs.Prelude.{ℕ, ◌*◌, ◌≤◌, ◌≡◌, refl, Bool, true, false, ◌≢◌, List, ltb, length}
+use Rattle.std.specs.Prelude.{ℕ, ◌*◌, ◌≤◌, ◌≡◌, refl, Bool, true, false, ◌≢◌, List, Ok, Err, ltb, length}
 use Rattle.std.proofs.Common.{sym, ap, ap₂, ◌∙◌, subst, arith, ltb-false}
 use Rattle.std.proofs.Math.Option.{Option, none, some}
 use Rattle.std.proofs.lemmas.List.{length-replicate}
@@ -15,18 +15,14 @@ use Rattle.paths.specs.Bundles.{ends_at}
 use Rattle.paths.specs.Whole.{Failed}
 use Rattle.mesh.specs.Kinds.{Kind}
 use Rattle.mesh.specs.Requests.{ends-fine, neither_wanting}
-use Rattle.judge.specs.Says.{ruling, number_of, rule, verdict_told, Asked, bundle_asked, asked_against, asked_finding, bundle_told}
+use Rattle.judge.specs.Says.{ruling, number_of, rule, verdict_told, fault_told, Asked, bundle_asked, asked_against, asked_finding, bundle_told}
 use Rattle.judge.specs.Asked.{Passed, asked_alike, asked_passed, passed_lent}
-use Rattle.judge.specs.Numbers.{findings_numbered, found_number, refused_number, rule_clean}
-use Rattle.judge.specs.declared.Finding as code
-use Rattle.judge.specs.declared.Verdict.{Verdict}
-use Rattle.judge.specs.declared.Verdict.TheVariants as verdict
+use Rattle.judge.specs.Numbers.{findings_numbered, fault_number, rule_clean}
+use Rattle.judge.specs.declared.Fault.{Fault}
 use Rattle.columns.specs.Says.{bundle_paths, Columns}
 use Rattle.columns.specs.Needs.{Filled}
-use Rattle.survivors.specs.Tally.{tallied, verdict_of, count_of}
+use Rattle.survivors.specs.Tally.{Tally, tallied, verdict_of, count_of}
 use Rattle.survivors.specs.Says.{few, settled, lacking, Survived}
-use Rattle.survivors.specs.declared.Tally.{Tally}
-use Rattle.survivors.specs.declared.Tally.TheVariants as tally
 
 -- ---- settled or not
 
@@ -66,13 +62,8 @@ module _ (wanting : Bool) (q : Asked) (places counts : List ℕ) (fails : Failed
       stays : {A : Type 0} (a b : A) → settled against first a b ≡ b
       stays a b = settled-not a b against first (λ y. ne (ap number_of e ∙ y))
 
-  pub found_survived : {f : code.Finding} {v : Verdict} → v ≡ verdict.Found f → verdict_told v ≡ rule against first
-      → Survived wanting q places counts fails ends hops wholes (tally.Found f) ends hops wholes
-  found_survived {f} g e = not_survived (tally.Found f) refl (found_number f) (sym (ap verdict_told g) ∙ e)
-
-  pub refused_survived : {why : Refusal} {v : Verdict} → v ≡ verdict.Refused why → verdict_told v ≡ rule against first
-      → Survived wanting q places counts fails ends hops wholes (tally.Refused why) ends hops wholes
-  refused_survived {why} g e = not_survived (tally.Refused why) refl (refused_number why) (sym (ap verdict_told g) ∙ e)
+  pub fault_survived : (f : Fault) → fault_told f ≡ rule against first → Survived wanting q places counts fails ends hops wholes (Err f) ends hops wholes
+  fault_survived f e = not_survived (Err f) refl (fault_number f) e
 
   -- nothing is found
   module _ (e : ruling 0 0 0 ≡ rule against first) where
@@ -109,7 +100,7 @@ module _ (wanting : Bool) (q : Asked) (places counts : List ℕ) (fails : Failed
             subst (λ (t : List ℕ). Columns (span q.rules) t places counts fails ends hops wholes r ends₁ hops₁ wholes₁) all
             (subst (λ (v : ℕ). Columns v l places counts fails ends hops wholes r ends₁ hops₁ wholes₁) wide columns)
 
-        pub survived : Survived wanting q places counts fails ends hops wholes (tally.Whole r) ends₁ hops₁ wholes₁
+        pub survived : Survived wanting q places counts fails ends hops wholes (Ok r) ends₁ hops₁ wholes₁
         survived = let c = asked_columns in record {
           told = ap₂ tallied e (c.counted ∙ sym (given _ 0));
           ended = c.ended ∙ sym (given _ ends);

@@ -1,6 +1,6 @@
 -- What survivors promises of a fan or a bundle (`Survived`): what comes back, and what the three columns hold afterwards. Where something stands against
 -- what is asked or is found, no path is counted and the columns stay as they were. Definitions; assumes nothing.
-use Rattle.std.specs.Prelude.{ℕ, ◌≡◌, Bool, true, List, ltb, length, take}
+use Rattle.std.specs.Prelude.{ℕ, ◌≡◌, Bool, true, List, Ok, Err, ltb, length, take}
 use Rattle.std.proofs.Math.Option.{Option, none, some}
 use Rattle.scan.specs.Scan.{pick, count}
 use Rattle.answers.specs.declared.Refusal.{Refusal}
@@ -9,9 +9,7 @@ use Rattle.paths.specs.Finding.{Finding, clean, found}
 use Rattle.paths.specs.Whole.{Failed, whole}
 use Rattle.judge.specs.Says.{Asked, asked_against, asked_finding, asked_told}
 use Rattle.columns.specs.Says.{ahead, marks}
-use Rattle.survivors.specs.Tally.{Tallied, tallied, tally_told}
-use Rattle.survivors.specs.declared.Tally.{Tally}
-use Rattle.survivors.specs.declared.Tally.TheVariants as tally
+use Rattle.survivors.specs.Tally.{Tally, Tallied, tallied, tally_told}
 
 -- fewer than k of one of three
 abbrev pub few : (k a b c : ℕ) → Bool
@@ -56,9 +54,8 @@ scarce k zones sites = pick (ltb zones k) true (ltb sites k)
 
 -- the one where paths are counted, else the other
 abbrev pub counted : {A : Type 0} → Tally → A → A → A
-counted (tally.Whole c) a b = a
-counted (tally.Found f) a b = b
-counted (tally.Refused why) a b = b
+counted (Ok c) a b = a
+counted (Err f) a b = b
 
 module _ (q : Asked) (places counts zones : List ℕ) (fails : Failed) (ends hops wholes sites : List ℕ) where
   -- too few zones, or places for them, are too few of a column

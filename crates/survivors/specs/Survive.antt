@@ -2,7 +2,7 @@
 -- (`survivors_survive`); so of a bundle, neither end stopped (`bundle_survivors_survive`). With the source stopped it counts none (`survivors_none`), nor with an end of
 -- a bundle (`bundle_survivors_none`); where nothing has failed all (`survivors_all`, `bundle_survivors_all`). Repeated numbers, numbers that are no relay, and the order
 -- of a pair change nothing (`members_alike`), nor do pairs that are no link (`no_link_alike`), nor an empty list of cuts (`nothing-cut`). Assumes nothing.
-use Rattle.std.specs.Prelude.{ℕ, ◌+◌, ◌≤◌, ◌<◌, ◌≡◌, refl, Bool, true, false, ◌||◌, ◌⊎◌, List, [], ◌∷◌, length}
+use Rattle.std.specs.Prelude.{ℕ, ◌+◌, ◌≤◌, ◌<◌, ◌≡◌, refl, Bool, true, false, ◌||◌, ◌⊎◌, List, [], ◌∷◌, Ok, length}
 use Rattle.std.proofs.Common.{sym, ◌∙◌, ⊎_elim, arith}
 use Rattle.std.proofs.Math.Path.{ap, ap₂}
 use Rattle.std.proofs.Math.Bool.{not, or-false}
@@ -25,15 +25,13 @@ use Rattle.mesh.specs.Kinds.{Kind}
 use Rattle.mesh.specs.Requests.{request_fine, ends-fine}
 use Rattle.judge.specs.Says.{verdict_told, fan_asked, bundle_asked, Asked, asked_finding}
 use Rattle.columns.specs.Laws.{count_most}
-use Rattle.survivors.specs.Tally.{ruling_of, whole_of, verdict_of, count_of}
+use Rattle.survivors.specs.Tally.{Tally, ruling_of, whole_of, verdict_of, count_of}
 use Rattle.survivors.specs.Says.{Survived}
 use Rattle.survivors.specs.Laws.{judged_clean, judged_passed, settled_is}
-use Rattle.survivors.specs.declared.Tally.{Tally}
-use Rattle.survivors.specs.declared.Tally.TheVariants as tally
 
 -- a count is given only where nothing stands against it and nothing is found, and is that of the whole paths
 counted_clean : (wanting : Bool) (q : Asked) (places counts : List ℕ) (fails : Failed) (ends hops₀ wholes : List ℕ) (r : Tally) (ends₁ hops₁ wholes₁ : List ℕ)
-    → Survived wanting q places counts fails ends hops₀ wholes r ends₁ hops₁ wholes₁ → (c : ℕ) → r ≡ tally.Whole c
+    → Survived wanting q places counts fails ends hops₀ wholes r ends₁ hops₁ wholes₁ → (c : ℕ) → r ≡ Ok c
     → (first q.faults ≡ none) × (asked_finding q places counts ≡ clean) × (c ≡ count (whole (span q.rules) places counts fails) (length q.targets))
 counted_clean wanting q places counts fails ends hops₀ wholes r ends₁ hops₁ wholes₁ p c e =
     let ruled = sym (ap (λ (t : Tally). verdict_told (verdict_of t)) e) ∙ ap ruling_of p.told in
@@ -44,7 +42,7 @@ counted_clean wanting q places counts fails ends hops₀ wholes r ends₁ hops�
 -- ---- a fan
 
 module _ (wanting : Bool) (K : Kind) (n s : ℕ) (targets places counts : List ℕ) (fails : Failed) (ends hops₀ wholes : List ℕ) (r : Tally) (ends₁ hops₁ wholes₁ : List ℕ)
-    (p : Survived wanting (fan_asked K n s targets) places counts fails ends hops₀ wholes r ends₁ hops₁ wholes₁) (c : ℕ) (e : r ≡ tally.Whole c) where
+    (p : Survived wanting (fan_asked K n s targets) places counts fails ends hops₀ wholes r ends₁ hops₁ wholes₁) (c : ℕ) (e : r ≡ Ok c) where
   -- a count is given of a fan only, from a relay of the mesh, and is that of its whole paths
   pub counted-fan : Fan (K.mesh n) s targets places counts × (s < (K.mesh n).relays) × (c ≡ count (whole (width (K.mesh n)) places counts fails) (length targets))
   counted-fan =
@@ -61,7 +59,7 @@ module _ (wanting : Bool) (K : Kind) (n s : ℕ) (targets places counts : List �
 
 -- where nothing has failed, all are whole
 pub survivors_all : (wanting : Bool) (K : Kind) (n s : ℕ) (targets places counts ends hops₀ wholes : List ℕ) (r : Tally) (ends₁ hops₁ wholes₁ : List ℕ)
-    → Survived wanting (fan_asked K n s targets) places counts (failed [] []) ends hops₀ wholes r ends₁ hops₁ wholes₁ → (c : ℕ) → r ≡ tally.Whole c → c ≡ length targets
+    → Survived wanting (fan_asked K n s targets) places counts (failed [] []) ends hops₀ wholes r ends₁ hops₁ wholes₁ → (c : ℕ) → r ≡ Ok c → c ≡ length targets
 unfolding different relays_of links_of
 survivors_all wanting K n s targets places counts ends hops₀ wholes r ends₁ hops₁ wholes₁ p c e =
     let all = survivors_survive wanting K n s targets places counts (failed [] []) ends hops₀ wholes r ends₁ hops₁ wholes₁ p c e (has-none s) in
@@ -71,7 +69,7 @@ survivors_all wanting K n s targets places counts ends hops₀ wholes r ends₁ 
 -- ---- a bundle
 
 module _ (wanting : Bool) (K : Kind) (n s t : ℕ) (places counts : List ℕ) (fails : Failed) (ends hops₀ wholes : List ℕ) (r : Tally) (ends₁ hops₁ wholes₁ : List ℕ)
-    (p : Survived wanting (bundle_asked K n s t) places counts fails ends hops₀ wholes r ends₁ hops₁ wholes₁) (c : ℕ) (e : r ≡ tally.Whole c) where
+    (p : Survived wanting (bundle_asked K n s t) places counts fails ends hops₀ wholes r ends₁ hops₁ wholes₁) (c : ℕ) (e : r ≡ Ok c) where
   abbrev m : Mesh
   m = K.mesh n
 
@@ -91,7 +89,7 @@ module _ (wanting : Bool) (K : Kind) (n s t : ℕ) (places counts : List ℕ) (f
       ∙ ⊎_elim (start-stopped m s t places counts counted_bundle.0 fails) (end-stopped m s t places counts counted_bundle.0 fails) h
 
 pub bundle_survivors_all : (wanting : Bool) (K : Kind) (n s t : ℕ) (places counts ends hops₀ wholes : List ℕ) (r : Tally) (ends₁ hops₁ wholes₁ : List ℕ)
-    → Survived wanting (bundle_asked K n s t) places counts (failed [] []) ends hops₀ wholes r ends₁ hops₁ wholes₁ → (c : ℕ) → r ≡ tally.Whole c → c ≡ (K.mesh n).links
+    → Survived wanting (bundle_asked K n s t) places counts (failed [] []) ends hops₀ wholes r ends₁ hops₁ wholes₁ → (c : ℕ) → r ≡ Ok c → c ≡ (K.mesh n).links
 unfolding different relays_of links_of
 bundle_survivors_all wanting K n s t places counts ends hops₀ wholes r ends₁ hops₁ wholes₁ p c e =
     let all = bundle_survivors_survive wanting K n s t places counts (failed [] []) ends hops₀ wholes r ends₁ hops₁ wholes₁ p c e (has-none s) (has-none t) in

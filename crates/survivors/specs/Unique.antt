@@ -1,27 +1,22 @@
 -- The promise of survivors leaves one tally and one content for each column (`survived_unique`): tallies that tell the same are the same.
 -- Assumes nothing.
-use Rattle.std.specs.Prelude.{ℕ, ◌≡◌, refl, Bool, List}
+use Rattle.std.specs.Prelude.{ℕ, ◌≡◌, refl, Bool, List, Result, Ok, Err, ⊤}
 use Rattle.std.proofs.Common.{sym, ap, ap₂, ◌∙◌}
 use Rattle.paths.specs.Whole.{Failed}
 use Rattle.judge.specs.Says.{Asked}
 use Rattle.judge.specs.Unique.{verdict_unique}
-use Rattle.judge.specs.declared.Verdict.{Verdict}
-use Rattle.judge.specs.declared.Verdict.TheVariants as verdict
-use Rattle.survivors.specs.Tally.{ruling_of, whole_of, verdict_of, count_of, tally_told}
+use Rattle.judge.specs.declared.Fault.{Fault}
+use Rattle.survivors.specs.Tally.{Tally, ruling_of, whole_of, verdict_of, count_of, tally_told}
 use Rattle.survivors.specs.Says.{Survived, wanting_of, SurvivedZoned}
-use Rattle.survivors.specs.declared.Tally.{Tally}
-use Rattle.survivors.specs.declared.Tally.TheVariants as tally
 
-tally_of : Verdict → ℕ → Tally
-tally_of verdict.Fan c = tally.Whole c
-tally_of (verdict.Found f) c = tally.Found f
-tally_of (verdict.Refused why) c = tally.Refused why
+tally_of : Result ⊤ Fault → ℕ → Tally
+tally_of (Ok x) c = Ok c
+tally_of (Err f) c = Err f
 
 tally_back : (t : Tally) → tally_of (verdict_of t) (count_of t) ≡ t
 unfolding tally_of
-tally_back (tally.Whole c) = refl
-tally_back (tally.Found f) = refl
-tally_back (tally.Refused why) = refl
+tally_back (Ok c) = refl
+tally_back (Err f) = refl
 
 pub tally_unique : (a b : Tally) → tally_told a ≡ tally_told b → a ≡ b
 tally_unique a b e =

@@ -1,5 +1,5 @@
 -- Survivors with zones: what carrying zones into their column asks (`Carried`), and why the promise with zones follows from the one without (`zoned_carried`, `zoned_survived`). Assumes nothing.
-use Rattle.std.specs.Prelude.{ℕ, ◌≤◌, ◌≡◌, refl, Bool, true, false, List, ltb, length, take}
+use Rattle.std.specs.Prelude.{ℕ, ◌≤◌, ◌≡◌, refl, Bool, true, false, List, Ok, Err, ltb, length, take}
 use Rattle.std.proofs.Common.{sym, ap, ap₂, ◌∙◌, arith, ltb-false}
 use Rattle.std.proofs.Math.Option.{Option, none}
 use Rattle.scan.specs.Scan.{pick, count}
@@ -11,18 +11,16 @@ use Rattle.paths.specs.Whole.{Failed, whole}
 use Rattle.mesh.specs.Requests.{neither_wanting}
 use Rattle.judge.specs.Says.{ruling, number_of, rule, verdict_told, Asked, asked_against, asked_finding}
 use Rattle.judge.specs.Asked.{Passed, asked_alike}
-use Rattle.judge.specs.Numbers.{found_number, refused_number}
+use Rattle.judge.specs.Numbers.{fault_number}
 use Rattle.columns.specs.Needs.{Copied}
 use Rattle.columns.specs.Says.{ahead, marks}
-use Rattle.survivors.specs.Tally.{Tallied, tallied, ruling_of, verdict_of}
+use Rattle.survivors.specs.Tally.{Tally, Tallied, tallied, ruling_of, verdict_of}
 use Rattle.survivors.specs.Says.{few, settled, lacking, Survived, scarce, counted, wanting_of, SurvivedZoned}
 use Rattle.survivors.specs.Laws.{settled_is, settled-not, judged_clean, judged_passed}
-use Rattle.survivors.specs.declared.Tally.{Tally}
-use Rattle.survivors.specs.declared.Tally.TheVariants as tally
 
 -- where paths are counted there are as many zones, and places for them
 abbrev pub Carried : (t : Tally) (k zones sites : ℕ) → Type 0
-Carried t k zones sites = (c : ℕ) → t ≡ tally.Whole c → Copied k zones sites
+Carried t k zones sites = (c : ℕ) → t ≡ Ok c → Copied k zones sites
 
 -- what code has of how many paths there are, and of the want of zones
 module _ (q : Asked) (places counts zones : List ℕ) (fails : Failed) (ends hops wholes sites : List ℕ) {flag : Bool} {k : ℕ}
@@ -54,7 +52,7 @@ module _ (q : Asked) (places counts zones : List ℕ) (fails : Failed) (ends hop
     ruled : {t : Tally} → r ≡ t → verdict_told (verdict_of t) ≡ rule against first
     ruled e = sym (ap (λ (t : Tally). verdict_told (verdict_of t)) e) ∙ ap ruling_of held.told
 
-    passed : {c : ℕ} → r ≡ tally.Whole c → Passed q (length places) (length counts) (lacking wanting q.targets ends hops wholes)
+    passed : {c : ℕ} → r ≡ Ok c → Passed q (length places) (length counts) (lacking wanting q.targets ends hops wholes)
     passed e = judged_passed wanting q places counts fails ends hops wholes (ruled e)
 
     pub zoned_carried : Carried r k (length zones) (length sites)
@@ -73,8 +71,7 @@ module _ (q : Asked) (places counts zones : List ℕ) (fails : Failed) (ends hop
       where
         go : (t : Tally) → r ≡ t → sites₁ ≡ counted t (ahead k (take k zones) sites) sites
             → sites₁ ≡ settled against first (ahead (length q.targets) (take (length q.targets) zones) sites) sites
-        go (tally.Whole c) e f =
+        go (Ok c) e f =
             let found = judged_clean wanting q places counts fails ends hops wholes (ruled e) in
             f ∙ ap (λ (j : ℕ). ahead j (take j zones) sites) (many (passed e).faultless) ∙ sym (settled_is _ sites found.0 found.1)
-        go (tally.Found x) e f = f ∙ sym (settled-not _ sites against first (λ y. found_number x (ap number_of (ruled e) ∙ y)))
-        go (tally.Refused why) e f = f ∙ sym (settled-not _ sites against first (λ y. refused_number why (ap number_of (ruled e) ∙ y)))
+        go (Err x) e f = f ∙ sym (settled-not _ sites against first (λ y. fault_number x (ap number_of (ruled e) ∙ y)))

@@ -4,8 +4,7 @@ ghost use Rattle.paths.specs.Whole.{failed};
 ghost use Rattle.mesh.specs.Kinds.{kind_of};
 ghost use Rattle.survivors.specs.Says.{Survived};
 
-use crate::Tally;
-use judge::Verdict;
+use judge::Fault;
 use mesh::Mesh;
 
 // The three columns of a bundle, for a caller that is lent more, which may be lacking.
@@ -21,29 +20,23 @@ pub fn bundle_three(
     ends: &mut [u64],
     hops: &mut [u64],
     wholes: &mut [u64],
-) -> Tally
+) -> Result<u64, Fault>
     ensures { Survived lacking (bundle_asked (kind_of mesh.kind) mesh.size source target) places.now counts.now (failed stopped.now cuts.now) ends.old hops.old wholes.old result ends.new hops.new wholes.new }
 {
     let k = columns::bundle_paths(mesh);
     let short = crate::few(lacking, k, ends.len(), hops.len(), wholes.len());
-    let verdict = judge::judge_bundle_with(mesh, source, target, places, counts, short);
-    match verdict {
-        Verdict::Fan => {
-            let w = mesh::bundle_places_in(mesh) as usize;
-            let targets = [target; mesh::MOST_LINKS];
-            Tally::Whole(columns::fill(
-                w,
-                &targets[..k],
-                places,
-                counts,
-                stopped,
-                cuts,
-                ends,
-                hops,
-                wholes,
-            ))
-        }
-        Verdict::Found(f) => Tally::Found(f),
-        Verdict::Refused(why) => Tally::Refused(why),
-    }
+    judge::judge_bundle_with(mesh, source, target, places, counts, short)?;
+    let w = mesh::bundle_places_in(mesh) as usize;
+    let targets = [target; mesh::MOST_LINKS];
+    Ok(columns::fill(
+        w,
+        &targets[..k],
+        places,
+        counts,
+        stopped,
+        cuts,
+        ends,
+        hops,
+        wholes,
+    ))
 }

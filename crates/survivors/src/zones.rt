@@ -4,45 +4,33 @@ ghost use Rattle.judge.specs.Says.{fan_asked, bundle_asked};
 ghost use Rattle.paths.specs.Whole.{failed};
 ghost use Rattle.mesh.specs.Kinds.{kind_of};
 ghost use Rattle.columns.specs.Says.{ahead};
-ghost use Rattle.columns.specs.Needs.{Copied};
 ghost use Rattle.survivors.specs.Says as says;
 ghost use Rattle.survivors.specs.Zones.{Carried};
 
-use crate::Tally;
+use judge::Fault;
 use mesh::Mesh;
 
 // Whether there are fewer than k zones, or places for them.
 fn scarce(k: usize, zones: usize, sites: usize) -> bool
     ensures { result ≡ says.scarce k zones sites }
 {
-    if zones < k {
-        return true;
-    }
-    sites < k
+    zones < k || sites < k
 }
 
-// Writes the first k zones at the front of their column.
-fn copy(zones: &[u32], k: usize, sites: &mut [u32])
-    requires { Copied k (length zones.now) (length sites.old) }
-    ensures { sites.new ≡ ahead k (take k zones.now) sites.old }
+// Hands a count on, with the first k zones written at the front of their column; else the column stays.
+fn carry(
+    tally: Result<u64, Fault>,
+    zones: &[u32],
+    k: usize,
+    sites: &mut [u32],
+) -> Result<u64, Fault>
+    requires { Carried tally k (length zones.now) (length sites.old) }
+    ensures told { result ≡ tally }
+    ensures column { sites.new ≡ says.counted tally (ahead k (take k zones.now) sites.old) sites.old }
 {
-    let mut i: usize = 0;
-    while i < k {
-        sites[i] = zones[i];
-        i += 1;
-    }
-}
-
-// The same where paths are counted; else the column stays.
-fn carry(t: Tally, zones: &[u32], k: usize, sites: &mut [u32])
-    requires { Carried t k (length zones.now) (length sites.old) }
-    ensures { sites.new ≡ says.counted t (ahead k (take k zones.now) sites.old) sites.old }
-{
-    match t {
-        Tally::Whole(_) => copy(zones, k, sites),
-        Tally::Found(_) => {}
-        Tally::Refused(_) => {}
-    }
+    let count = tally?;
+    columns::copy(zones, k, sites);
+    Ok(count)
 }
 
 // Of a fan from the source to the targets, which paths are whole where the relays in `stopped` have stopped and the links in `cuts` are cut: for each path, in
@@ -63,16 +51,15 @@ pub fn survivors(
     hops: &mut [u64],
     wholes: &mut [u64],
     sites: &mut [u32],
-) -> Tally
+) -> Result<u64, Fault>
     ensures { says.SurvivedZoned (fan_asked (kind_of mesh.kind) mesh.size source targets.now) places.now counts.now zones.now (failed stopped.now cuts.now) ends.old hops.old wholes.old sites.old result ends.new hops.new wholes.new sites.new }
 {
     let k = targets.len();
     let lacking = scarce(k, zones.len(), sites.len());
-    let tally = crate::three(
+    let fan = crate::three(
         mesh, source, targets, places, counts, stopped, cuts, lacking, ends, hops, wholes,
     );
-    carry(tally, zones, k, sites);
-    tally
+    carry(fan, zones, k, sites)
 }
 
 // Of a bundle from the source to the target, which paths are whole where the relays in `stopped` have stopped and the links in `cuts`, as in `survivors`, are
@@ -93,14 +80,13 @@ pub fn bundle_survivors(
     hops: &mut [u64],
     wholes: &mut [u64],
     sites: &mut [u32],
-) -> Tally
+) -> Result<u64, Fault>
     ensures { says.SurvivedZoned (bundle_asked (kind_of mesh.kind) mesh.size source target) places.now counts.now zones.now (failed stopped.now cuts.now) ends.old hops.old wholes.old sites.old result ends.new hops.new wholes.new sites.new }
 {
     let k = columns::bundle_paths(mesh);
     let lacking = scarce(k, zones.len(), sites.len());
-    let tally = crate::bundles::bundle_three(
+    let bundle = crate::bundles::bundle_three(
         mesh, source, target, places, counts, stopped, cuts, lacking, ends, hops, wholes,
     );
-    carry(tally, zones, k, sites);
-    tally
+    carry(bundle, zones, k, sites)
 }

@@ -14,15 +14,15 @@ returns-then-bit c =
     let a = c.args in
     sym (arrival-seen a.was a.number (λ z. omega arith) (omega arith) (omega arith)
     (minus_is (omega arith) (omega arith) c.wrapping_sub_u16-ahead.ensures.value) (minus_is (omega arith) (omega arith) c.wrapping_sub_u16-behind.ensures.value)
-    (omega arith) (bit-on _ a.was.marks (sym c.bit.ensures ∙ c.if-bit.true)))
+    (omega arith) (bit-on _ a.was.marks (sym (rw c.from.ensures at c.bit.ensures) ∙ c.if-bit.true)))
 
 pub returns-then-behind-lt64 : goal.returns-then-behind-lt64
 returns-then-behind-lt64 c =
     let a = c.args in
-    ap (λ (m : ℕ). Passed (kept a.was.newest m)) c.flip.ensures
+    ap (λ (m : ℕ). Passed (kept a.was.newest m)) (rw c.from-then-behind-lt64.ensures at c.flip.ensures)
     ∙ sym (arrival-marked a.was a.number (λ z. omega arith) (omega arith) (omega arith)
     (minus_is (omega arith) (omega arith) c.wrapping_sub_u16-ahead.ensures.value) (minus_is (omega arith) (omega arith) c.wrapping_sub_u16-behind.ensures.value)
-    (omega arith) (bit_off _ a.was.marks (sym c.bit.ensures ∙ c.if-bit.false)))
+    (omega arith) (bit_off _ a.was.marks (sym (rw c.from.ensures at c.bit.ensures) ∙ c.if-bit.false)))
 
 pub returns : goal.returns
 returns c =

@@ -40,10 +40,6 @@ returns-then-cut_at c =
     (passed_at c.loop-p.invariant (omega arith)
     (cut-told a.w a.places.now (failed [] a.cuts.now) a.i _ c.relay-u.ensures c.relay-v.ensures c.cut_at.ensures c.if-cut_at.true)))
 
-pub overflow_add-p-in-loop-p : goal.overflow_add-p-in-loop-p
-unfolding hops
-overflow_add-p-in-loop-p c = omega (arith, c.requires.held.row.room, c.requires.held.row.short, c.well_formed)
-
 pub loop-p-preserved : goal.loop-p-preserved
 loop-p-preserved c =
     let a = c.args in

@@ -10,6 +10,3 @@ use Rattle.columns.proofs.cut_on.Given as goal
 
 abbrev pub invariant-loop-p : goal.invariant-loop-p
 invariant-loop-p l = Passed (severs l.w l.places (failed [] l.cuts) l.i) 0 l.h l.p
-
-abbrev pub decreases-loop-p : goal.decreases-loop-p
-decreases-loop-p l = l.h - l.p

@@ -29,9 +29,9 @@ returns-then-stopped_at c =
     let a = c.args in
     sym (ap found (passed_at c.loop-p.invariant (omega arith) (stop_told a.w a.places.now (failed a.stopped.now []) a.i _ c.relay-x.ensures c.stopped_at.ensures c.if-stopped_at.true)))
 
-pub overflow_add-p : goal.overflow_add-p
+pub overflow_add-p-end : goal.overflow_add-p-end
 unfolding hops
-overflow_add-p c = omega (arith, c.requires.held.row.room, c.requires.held.row.short, c.well_formed)
+overflow_add-p-end c = omega (arith, c.requires.held.row.room, c.requires.held.row.short, c.well_formed)
 
 pub loop-p-preserved : goal.loop-p-preserved
 loop-p-preserved c =

@@ -10,6 +10,3 @@ use Rattle.columns.proofs.stopped_on.Given as goal
 
 abbrev pub invariant-loop-p : goal.invariant-loop-p
 invariant-loop-p l = Passed (stops l.w l.places (failed l.stopped []) l.i) 0 (l.h + 1) l.p
-
-abbrev pub decreases-loop-p : goal.decreases-loop-p
-decreases-loop-p l = l.h + 1 - l.p

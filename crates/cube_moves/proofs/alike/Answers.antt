@@ -1,27 +1,20 @@
-use Rattle.std.proofs.Common.{sym, ap, ◌∙◌, ℕ, arith, bit_xor, bit_and, rules}
-use lib.Count.{ones}
-use Rattle.bits.specs.Laws.{ones_clear}
+use Rattle.std.proofs.Common.{sym, ap, ◌∙◌, subst, ℕ, bit_xor, bit_and}
 use Rattle.cube_rows.specs.Grid.{target}
 use Rattle.cube_moves.specs.Cut.{Like, Unlike, Picking, pick-start, pick-step, pick_all}
 use Rattle.cube_moves.proofs.alike.Goals as goal
 
-pub loop-todo-init : goal.loop-todo-init
-loop-todo-init c = pick-start _ _ _
-
-pub lowest-j-requires : goal.lowest-j-requires
-lowest-j-requires c = c.loop-todo-test.true
+pub loop-j-init : goal.loop-j-init
+loop-j-init c = rw c.into_iter-j-iterator.ensures.into_iter_gives (pick-start _ _ _)
 
 pub target-requires : goal.target-requires
-target-requires c = (c.requires.wide, c.requires.room _ (c.loop-todo.invariant.part _ c.lowest-j.ensures.set))
+target-requires c = (c.requires.wide, c.requires.room _ (c.loop-j.invariant.part _ c.in-Some.ensures.steps.0.set))
 
-pub loop-todo-smaller : goal.loop-todo-smaller
-loop-todo-smaller c = omega (arith, ap ones c.flip-todo.ensures, ones_clear _ c.loop-todo.todo c.lowest-j.ensures.set)
-
-pub loop-todo-preserved : goal.loop-todo-preserved
-loop-todo-preserved c =
+pub loop-j-preserved : goal.loop-j-preserved
+loop-j-preserved c =
     let a = c.args in
+    let turn = c.in-Some.ensures.steps in
     let same = ap (λ (t : ℕ). bit_and (bit_xor t a.f) a.mask) c.target.ensures in
-    pick-step _ _ _ _ _ _ _ c.loop-todo.invariant c.lowest-j.ensures.set (λ z. sym same ∙ z) (λ z e. z (same ∙ e)) c.keep-r.ensures c.flip-todo.ensures
+    pick-step _ _ _ _ _ _ _ c.loop-j.invariant turn.0.set (λ z. sym same ∙ z) (λ z e. z (same ∙ e)) c.keep-r.ensures turn.1
 
 pub returns : goal.returns
-returns c = pick_all _ _ _ c.loop-todo.invariant c.loop-todo-test.false
+returns c = pick_all _ _ _ c.loop-j.invariant c.in-None.ensures.steps

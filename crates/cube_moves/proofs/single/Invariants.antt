@@ -10,7 +10,7 @@ pub record Inv (free d j w i goal : ℕ) (g₀ g : List ℕ) (here : ℕ) : Type
   pub ends : Ends free goal i d here (hops w g j)
 
 abbrev pub invariant-loop-here : goal.invariant-loop-here
-invariant-loop-here l = Inv l.free l.d l.j l.w l.i l.goal l.initial.grid l.grid l.here
+invariant-loop-here l = Inv l.fn.start.free l.d l.j l.w l.i l.goal l.initial.grid l.grid l.here
 
 abbrev pub decreases-loop-here : goal.decreases-loop-here
 decreases-loop-here l = rank l.goal l.here

@@ -44,7 +44,7 @@ plan-requires-2 t c =
     let h = remains _ _ _ _ _ _ c.requires _ _ c.sort-r.ensures in
     let d = c.divide-c.ensures in (
       omega (arith, rest-less _ _ _ _ _ _ h _ _ _ _ _ _ _ d),
-      near-asked _ _ _ _ _ _ h _ _ _ _ _ _ _ d _ c.plan.ensures _ _ c.bring-used.ensures _ c.less-near.ensures,
+      near-asked _ _ _ _ _ _ h _ _ _ _ _ _ _ d _ c.plan.ensures _ _ c.bring-used.ensures _ c.less.ensures,
     )
 
 -- src/lib.rt:11:1
@@ -53,5 +53,5 @@ returns t c =
     let q = c.requires in
     let a = c.sort-r.ensures in
     let h = remains _ _ _ _ _ _ q _ _ a in
-    let r = both _ _ _ _ _ _ h _ _ _ _ _ _ _ c.divide-c.ensures _ c.plan.ensures _ _ c.bring-used.ensures _ _ c.less-near.ensures c.plan-2.ensures in
+    let r = both _ _ _ _ _ _ h _ _ _ _ _ _ _ c.divide-c.ensures _ c.plan.ensures _ _ c.bring-used.ensures _ _ c.less.ensures c.plan-2.ensures in
     left-all _ _ _ _ _ _ q _ _ a _ r.0 r.1

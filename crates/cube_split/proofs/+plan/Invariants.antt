@@ -4,4 +4,4 @@ use Rattle.std.specs.Int.Count.{ones}
 use Rattle.cube_split.proofs.+plan.Given as goal
 
 abbrev pub decreases-plan : goal.decreases-plan
-decreases-plan l = ones l.free
+decreases-plan l = ones l.start.free

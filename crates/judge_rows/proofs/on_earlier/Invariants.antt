@@ -7,6 +7,3 @@ use Rattle.judge_rows.proofs.on_earlier.Given as goal
 
 abbrev pub invariant-loop-j : goal.invariant-loop-j
 invariant-loop-j l = Passed (on l.w l.places l.counts l.x) 0 l.i l.j
-
-abbrev pub decreases-loop-j : goal.decreases-loop-j
-decreases-loop-j l = l.i - l.j

@@ -15,6 +15,3 @@ pub record Inv (rules : Rules) (marks places counts : List ℕ) (i h p : ℕ) : 
 
 abbrev pub invariant-loop-p : goal.invariant-loop-p
 invariant-loop-p l = Inv l.rules l.marks l.places l.counts l.i l.h l.p
-
-abbrev pub decreases-loop-p : goal.decreases-loop-p
-decreases-loop-p l = l.h + 1 - l.p

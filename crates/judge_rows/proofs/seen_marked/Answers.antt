@@ -1,5 +1,5 @@
 -- `judge_rows::seen_marked` meets its contract: a relay without its mark stands on no path before it, and else it is looked for. Assumes nothing.
-use Rattle.std.proofs.Common.{refl, arith, rules}
+use Rattle.std.proofs.Common.{refl, ◌∙◌, arith}
 use Rattle.paths.specs.Fan.{hops}
 use Rattle.judge_rows.specs.Rules.{rules_of}
 use Rattle.judge_rows.specs.Looked.{new_excepted, new_here}
@@ -16,9 +16,10 @@ returns-then-excepted c =
     new_excepted (rules_of a.rules) a.places.now a.counts.now a.i a.p c.requires.after.ruled.wide c.requires.x_value c.requires.looked c.marked.ensures c.if-marked.false
     c.excepted.ensures c.if-excepted.true c.twinned.ensures
 
-pub returns : goal.returns
+pub returns-else-excepted : goal.returns-else-excepted
 unfolding hops
-returns c =
+returns-else-excepted c =
     let a = c.args in
-    new_here (rules_of a.rules) a.places.now a.counts.now a.i a.p c.requires.after.ruled.wide c.requires.x_value c.requires.looked c.marked.ensures c.if-marked.false
+    c.if-excepted.false
+    ∙ new_here (rules_of a.rules) a.places.now a.counts.now a.i a.p c.requires.after.ruled.wide c.requires.x_value c.requires.looked c.marked.ensures c.if-marked.false
     c.excepted.ensures c.if-excepted.false

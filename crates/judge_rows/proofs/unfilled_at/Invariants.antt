@@ -7,6 +7,3 @@ use Rattle.judge_rows.proofs.unfilled_at.Given as goal
 
 abbrev pub invariant-loop-p : goal.invariant-loop-p
 invariant-loop-p l = Passed (unfilled l.w l.places l.i) (l.h + 1) (l.w - (l.h + 1)) l.p
-
-abbrev pub decreases-loop-p : goal.decreases-loop-p
-decreases-loop-p l = l.w - l.p

@@ -7,6 +7,3 @@ use Rattle.judge_rows.proofs.unlinked_at.Given as goal
 
 abbrev pub invariant-loop-p : goal.invariant-loop-p
 invariant-loop-p l = Passed (unlinked (rules_of l.rules) l.places l.i) 1 l.h l.p
-
-abbrev pub decreases-loop-p : goal.decreases-loop-p
-decreases-loop-p l = l.h + 1 - l.p

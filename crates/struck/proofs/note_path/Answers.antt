@@ -1,5 +1,5 @@
-use Rattle.std.proofs.Common.{ℕ, ◌-◌, ◌≡◌, refl, sym, ap₂, ◌∙◌, List, arith, rules}
-use Rattle.marks.specs.Noted.{Noted, noted_more, noted_row}
+use Rattle.std.proofs.Common.{ap₂, ◌∙◌, arith}
+use Rattle.marks.specs.Noted.{noted_more, noted_row}
 use Rattle.paths.specs.Fan.{hops}
 use Rattle.struck.specs.Struck.{key, thing, things}
 use Rattle.struck.proofs.note_path.Goals as goal
@@ -8,23 +8,20 @@ pub overflow_add-n : goal.overflow_add-n
 unfolding hops
 overflow_add-n c = omega (arith, c.requires.held.row.short, c.requires.held.row.room, c.well_formed)
 
-pub loop-p-init : goal.loop-p-init
+pub relay-u-requires : goal.relay-u-requires
 unfolding hops
-loop-p-init c = record { all = refl; noted = c.requires.noted }
+relay-u-requires c = omega (arith, c.requires.held.row.short, c.requires.held.row.room)
+
+pub relay-v-requires : goal.relay-v-requires
+unfolding hops
+relay-v-requires c = omega (arith, c.requires.held.row.short, c.requires.held.row.room)
 
 pub loop-p-preserved : goal.loop-p-preserved
 loop-p-preserved c =
     let a = c.args in
-    let v = c.loop-p.invariant in
-    record {
-      all = v.all;
-      noted =
-          noted_more (thing a.w a.places.now a.d) (things a.counts.now a.d) v.noted
-          (c.key.ensures ∙ ap₂ key c.relay-u.ensures c.relay-v.ensures) c.put.ensures;
-    }
+    noted_more (thing a.w a.places.now a.d) (things a.counts.now a.d) c.loop-p.invariant
+    (c.key.ensures ∙ ap₂ key c.relay-u.ensures c.relay-v.ensures) c.put.ensures
 
 pub returns : goal.returns
-returns c =
-    let a = c.args in
-    let v = c.loop-p.invariant in
-    noted_row (thing a.w a.places.now a.d) (things a.counts.now a.d) v.noted (omega (arith, v.all))
+unfolding hops
+returns c = let a = c.args in noted_row (thing a.w a.places.now a.d) (things a.counts.now a.d) c.loop-p.invariant (omega arith)

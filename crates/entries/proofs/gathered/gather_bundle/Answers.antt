@@ -5,35 +5,35 @@ use Rattle.paths.specs.Whole.{failed}
 use Rattle.mesh.specs.Kinds.{kind_of, mesh_of}
 use Rattle.judge.specs.Says.{bundle_asked}
 use Rattle.survivors.specs.Laws.{bundle_many}
-use Rattle.entries.specs.Laws.{capped-most, capped-length, bundle_few, gathered}
+use Rattle.entries.specs.Laws.{capped-is, capped-most, capped-length, bundle_few, gathered}
 use Rattle.entries.proofs.gathered.gather_bundle.Goals as goal
 
 pub slice_bounds-ends-end : goal.slice_bounds-ends-end
-slice_bounds-ends-end c = capped-most _ c.most-n.ensures
+slice_bounds-ends-end c = capped-most _ (capped-is _ c.min-n.ensures)
 
 pub slice_bounds-bundle_survivors-end : goal.slice_bounds-bundle_survivors-end
-slice_bounds-bundle_survivors-end c = sym (capped-length _ _ refl c.most-n.ensures)
+slice_bounds-bundle_survivors-end c = sym (capped-length _ _ refl (capped-is _ c.min-n.ensures))
 
 pub slice_bounds-hops-end : goal.slice_bounds-hops-end
-slice_bounds-hops-end c = capped-most _ c.most-n.ensures
+slice_bounds-hops-end c = capped-most _ (capped-is _ c.min-n.ensures)
 
 pub slice_bounds-bundle_survivors-end-2 : goal.slice_bounds-bundle_survivors-end-2
-slice_bounds-bundle_survivors-end-2 c = sym (capped-length _ _ refl c.most-n.ensures)
+slice_bounds-bundle_survivors-end-2 c = sym (capped-length _ _ refl (capped-is _ c.min-n.ensures))
 
 pub slice_bounds-wholes-end : goal.slice_bounds-wholes-end
-slice_bounds-wholes-end c = capped-most _ c.most-n.ensures
+slice_bounds-wholes-end c = capped-most _ (capped-is _ c.min-n.ensures)
 
 pub slice_bounds-bundle_survivors-end-3 : goal.slice_bounds-bundle_survivors-end-3
-slice_bounds-bundle_survivors-end-3 c = sym (capped-length _ _ refl c.most-n.ensures)
+slice_bounds-bundle_survivors-end-3 c = sym (capped-length _ _ refl (capped-is _ c.min-n.ensures))
 
 pub slice_bounds-sites-end : goal.slice_bounds-sites-end
-slice_bounds-sites-end c = capped-most _ c.most-n.ensures
+slice_bounds-sites-end c = capped-most _ (capped-is _ c.min-n.ensures)
 
 pub slice_bounds-bundle_survivors-end-4 : goal.slice_bounds-bundle_survivors-end-4
-slice_bounds-bundle_survivors-end-4 c = sym (capped-length _ _ refl c.most-n.ensures)
+slice_bounds-bundle_survivors-end-4 c = sym (capped-length _ _ refl (capped-is _ c.min-n.ensures))
 
 pub returns : goal.returns
 returns c =
     let a = c.args in
     gathered (bundle_asked (kind_of a.mesh.kind) a.mesh.size a.source a.target) (bundle_few a.mesh.kind a.mesh.size a.source a.target)
-    a.places.now a.counts.now a.zones.now (failed a.stopped.now a.cuts.now) a.room _ _ _ _ _ _ _ refl c.most-n.ensures c.bundle_survivors-tally.ensures (λ e. bundle_many (kind_of a.mesh.kind) a.mesh.size a.source a.target c.bundle_paths-paths.ensures e ∙ sym (length-replicate (mesh_of a.mesh.kind a.mesh.size).links a.target)) c.taken-k.ensures
+    a.places.now a.counts.now a.zones.now (failed a.stopped.now a.cuts.now) a.room _ _ _ _ _ _ _ refl (capped-is _ c.min-n.ensures) c.bundle_survivors-tally.ensures (λ e. bundle_many (kind_of a.mesh.kind) a.mesh.size a.source a.target c.bundle_paths-paths.ensures e ∙ sym (length-replicate (mesh_of a.mesh.kind a.mesh.size).links a.target)) c.taken-k.ensures

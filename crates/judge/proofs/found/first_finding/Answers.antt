@@ -1,14 +1,11 @@
-use Rattle.std.proofs.Common.{ℕ, ◌+◌, ◌-◌, ap, List, arith, length, rules}
-use mathlib.Core.Option.{none}
-use lib.ListN.{length-replicate}
+use Rattle.std.proofs.Common.{ℕ, ◌+◌, refl, arith}
+use Rattle.std.proofs.lemmas.List.{length-replicate}
+use Rattle.std.proofs.lemmas.Result.{err_from_is_err_and}
 use Rattle.marks.specs.Marks.{words}
 use Rattle.marks.specs.Noted.{noted_none}
 use Rattle.paths.specs.Fan.{relay, hops}
 use Rattle.judge_rows.specs.Rules.{rules_of}
-use Rattle.judge_rows.specs.Looked.{Looked}
-use Rattle.judge_rows.specs.declared.Rules.{Rules}
-use Rattle.judge.specs.Says.{rule, search_of}
-use Rattle.judge.specs.Search.{Searched, search_starts, search_room, search_goes_on, search_finds, search_ends}
+use Rattle.judge.specs.Search.{search_starts, search_room, search_goes_on, search_finds, search_ends}
 use Rattle.judge.proofs.found.first_finding.Goals as goal
 
 pub loop-i-init : goal.loop-i-init
@@ -19,8 +16,8 @@ loop-i-init c =
       looked = noted_none (relay a.rules.width a.places.now) (λ j. hops a.counts.now j + 1) (length-replicate {A = ℕ} words 0);
     }
 
-pub look-looked-requires : goal.look-looked-requires
-look-looked-requires c =
+pub look-requires : goal.look-requires
+look-requires c =
     let v = c.loop-i.invariant.searched in record {
       next = record {
         ruled = c.requires.ruled;
@@ -31,11 +28,13 @@ look-looked-requires c =
       looked = c.loop-i.invariant.looked;
     }
 
-pub returns-in-Found : goal.returns-in-Found
-returns-in-Found c =
+pub returns-in_err-look : goal.returns-in_err-look
+returns-in_err-look c =
     let a = c.args in
-    ap (rule none) (search_finds (rules_of a.rules) a.source a.targets.now a.places.now a.counts.now c.loop-i.invariant.searched c.loop-i-test.true
-    c.in-Found.is c.look-looked.ensures.result_value)
+    let p = err_from_is_err_and c.from_residual.result c.from_residual.ensures.1 in
+    rw (p.1, p.2)
+    (search_finds (rules_of a.rules) a.source a.targets.now a.places.now a.counts.now _ c.loop-i.invariant.searched c.loop-i-test.true
+    c.in_err-look.ensures.result_value)
 
 pub loop-i-preserved : goal.loop-i-preserved
 loop-i-preserved c =
@@ -43,11 +42,11 @@ loop-i-preserved c =
     record {
       searched =
           search_goes_on (rules_of a.rules) a.source a.targets.now a.places.now a.counts.now c.loop-i.invariant.searched c.loop-i-test.true
-          c.in_default.is c.look-looked.ensures.result_value;
-      looked = c.look-looked.ensures.looked_2 (ap search_of c.in_default.is);
+          c.in_ok-look.ensures.result_value;
+      looked = c.in_ok-look.ensures.looked_2 refl;
     }
 
 pub returns : goal.returns
 returns c =
     let a = c.args in
-    ap (rule none) (search_ends (rules_of a.rules) a.source a.targets.now a.places.now a.counts.now c.loop-i.invariant.searched c.loop-i-test.false)
+    search_ends (rules_of a.rules) a.source a.targets.now a.places.now a.counts.now c.loop-i.invariant.searched c.loop-i-test.false

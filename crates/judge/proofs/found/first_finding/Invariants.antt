@@ -1,15 +1,9 @@
 -- `judge::found::first_finding` meets its contract: the invariant is that nothing was found on the paths passed, and that their relays are marked. Assumes nothing.
-use Rattle.std.proofs.Common.{ℕ, ◌+◌, ◌-◌, ap, List, arith, length, rules}
-use mathlib.Core.Option.{none}
-use lib.ListN.{length-replicate}
-use Rattle.marks.specs.Marks.{words}
-use Rattle.marks.specs.Noted.{noted_none}
-use Rattle.paths.specs.Fan.{relay, hops}
+use Rattle.std.proofs.Common.{ℕ, List}
 use Rattle.judge_rows.specs.Rules.{rules_of}
 use Rattle.judge_rows.specs.Looked.{Looked}
 use Rattle.judge_rows.specs.declared.Rules.{Rules}
-use Rattle.judge.specs.Says.{rule, search_of}
-use Rattle.judge.specs.Search.{Searched, search_starts, search_room, search_goes_on, search_finds, search_ends}
+use Rattle.judge.specs.Search.{Searched}
 use Rattle.judge.proofs.found.first_finding.Given as goal
 
 pub record Inv (rules : Rules) (source : ℕ) (targets places counts marks : List ℕ) (i : ℕ) : Type 0 where
@@ -18,6 +12,3 @@ pub record Inv (rules : Rules) (source : ℕ) (targets places counts marks : Lis
 
 abbrev pub invariant-loop-i : goal.invariant-loop-i
 invariant-loop-i l = Inv l.rules l.source l.targets l.places l.counts l.marks l.i
-
-abbrev pub decreases-loop-i : goal.decreases-loop-i
-decreases-loop-i l = length l.targets - l.i

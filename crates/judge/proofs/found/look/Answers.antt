@@ -1,11 +1,10 @@
 -- `judge::found::look` meets its contract: each finding is told where no test before it held. Assumes nothing.
-use Rattle.std.proofs.Common.{rules, ℕ, List, ◌≡◌, ap, ◌∙◌}
-use Rattle.scan.specs.Scan.{spot_of}
+use Rattle.std.proofs.Common.{rules, ℕ, List, ◌≡◌, ◌∙◌, refl}
 use Rattle.paths.specs.Fan.{hops}
 use Rattle.paths.specs.Rules.{span}
 use Rattle.judge_rows.specs.Rules.{rules_of}
 use Rattle.judge_rows.specs.declared.Rules as code
-use Rattle.judge.specs.Looks.{Look, from20, from21, from22, from23, from24, from25, too_long, not_long, wrong_start, right-start, wrong_link, right-links, wrong_end, right_end, seen_again, none_seen, not_filled, all_filled, told}
+use Rattle.judge.specs.Looks.{Look, too_long, not_long, wrong_start, right-start, wrong_link, right-links, wrong_end, right_end, seen_again, none_seen, not_filled, all_filled, told}
 use Rattle.judge.proofs.found.look.Goals as goal
 
 abbrev look : (rules : code.Rules) (s t : ℕ) (places counts : List ℕ) (i : ℕ) → rules.width ≡ span (rules_of rules) → Look
@@ -23,53 +22,48 @@ unfolding hops
 returns-then-relay-source c =
     let a = c.args in
     let k = look a.rules a.source a.target a.places.now a.counts.now a.i c.requires.next.ruled.wide in
-    let past = not_long k c.if-w-h.false in
-    record { result_value = wrong_start k c.relay.ensures c.if-relay-source.true ∙ past; looked_2 = λ e. absurd (told e) }
+    record { result_value = wrong_start k c.relay.ensures c.if-relay-source.true ∙ not_long k c.if-w-h.false; looked_2 = λ e. absurd (told e) }
 
-pub returns-in-At : goal.returns-in-At
+pub returns-in-Some : goal.returns-in-Some
 unfolding hops
-returns-in-At c =
+returns-in-Some c =
     let a = c.args in
     let k = look a.rules a.source a.target a.places.now a.counts.now a.i c.requires.next.ruled.wide in
     let past = right-start k c.relay.ensures c.if-relay-source.false ∙ not_long k c.if-w-h.false in
-    record { result_value = wrong_link k c.unlinked_at-unlinked.ensures (ap spot_of c.in-At.is) ∙ past; looked_2 = λ e. absurd (told e) }
+    record { result_value = wrong_link k c.in-Some.ensures ∙ past; looked_2 = λ e. absurd (told e) }
 
 pub returns-then-relay-target : goal.returns-then-relay-target
 unfolding hops
 returns-then-relay-target c =
     let a = c.args in
     let k = look a.rules a.source a.target a.places.now a.counts.now a.i c.requires.next.ruled.wide in
-    let past =
-    right-links k c.unlinked_at-unlinked.ensures (ap spot_of c.in_default.is)
-    ∙ right-start k c.relay.ensures c.if-relay-source.false ∙ not_long k c.if-w-h.false in
+    let past = right-links k c.in_default.ensures ∙ right-start k c.relay.ensures c.if-relay-source.false ∙ not_long k c.if-w-h.false in
     record { result_value = wrong_end k c.relay-2.ensures c.if-relay-target.true ∙ past; looked_2 = λ e. absurd (told e) }
 
-pub seen_at-seen-requires-clause-h_value : goal.seen_at-seen-requires-clause-h_value
+pub seen_at-requires-clause-h_value : goal.seen_at-requires-clause-h_value
 unfolding hops
-seen_at-seen-requires-clause-h_value c = search rules
+seen_at-requires-clause-h_value c = search rules
 
-pub returns-in-At-seen : goal.returns-in-At-seen
+pub returns-in-Some-seen_at : goal.returns-in-Some-seen_at
 unfolding hops
-returns-in-At-seen c =
+returns-in-Some-seen_at c =
     let a = c.args in
     let k = look a.rules a.source a.target a.places.now a.counts.now a.i c.requires.next.ruled.wide in
     let past =
     right_end k c.relay-2.ensures c.if-relay-target.false
-    ∙ right-links k c.unlinked_at-unlinked.ensures (ap spot_of c.in_default.is)
-    ∙ right-start k c.relay.ensures c.if-relay-source.false ∙ not_long k c.if-w-h.false in
-    record { result_value = seen_again k c.seen_at-seen.ensures.result_value (ap spot_of c.in-At-seen.is) ∙ past; looked_2 = λ e. absurd (told e) }
+    ∙ right-links k c.in_default.ensures ∙ right-start k c.relay.ensures c.if-relay-source.false ∙ not_long k c.if-w-h.false in
+    record { result_value = seen_again k c.in-Some-seen_at.ensures.result_value ∙ past; looked_2 = λ e. absurd (told e) }
 
-pub returns-in-At-unfilled : goal.returns-in-At-unfilled
+pub returns-in-Some-unfilled_at : goal.returns-in-Some-unfilled_at
 unfolding hops
-returns-in-At-unfilled c =
+returns-in-Some-unfilled_at c =
     let a = c.args in
     let k = look a.rules a.source a.target a.places.now a.counts.now a.i c.requires.next.ruled.wide in
     let past =
-    none_seen k c.seen_at-seen.ensures.result_value (ap spot_of c.in_default-seen.is)
+    none_seen k c.in_default-seen_at.ensures.result_value
     ∙ right_end k c.relay-2.ensures c.if-relay-target.false
-    ∙ right-links k c.unlinked_at-unlinked.ensures (ap spot_of c.in_default.is)
-    ∙ right-start k c.relay.ensures c.if-relay-source.false ∙ not_long k c.if-w-h.false in
-    record { result_value = not_filled k c.unfilled_at-unfilled.ensures (ap spot_of c.in-At-unfilled.is) ∙ past; looked_2 = λ e. absurd (told e) }
+    ∙ right-links k c.in_default.ensures ∙ right-start k c.relay.ensures c.if-relay-source.false ∙ not_long k c.if-w-h.false in
+    record { result_value = not_filled k c.in-Some-unfilled_at.ensures ∙ past; looked_2 = λ e. absurd (told e) }
 
 pub returns : goal.returns
 unfolding hops
@@ -77,11 +71,10 @@ returns c =
     let a = c.args in
     let k = look a.rules a.source a.target a.places.now a.counts.now a.i c.requires.next.ruled.wide in
     let past =
-    none_seen k c.seen_at-seen.ensures.result_value (ap spot_of c.in_default-seen.is)
+    none_seen k c.in_default-seen_at.ensures.result_value
     ∙ right_end k c.relay-2.ensures c.if-relay-target.false
-    ∙ right-links k c.unlinked_at-unlinked.ensures (ap spot_of c.in_default.is)
-    ∙ right-start k c.relay.ensures c.if-relay-source.false ∙ not_long k c.if-w-h.false in
+    ∙ right-links k c.in_default.ensures ∙ right-start k c.relay.ensures c.if-relay-source.false ∙ not_long k c.if-w-h.false in
     record {
-      result_value = all_filled k c.unfilled_at-unfilled.ensures (ap spot_of c.in_default-unfilled.is) ∙ past;
-      looked_2 = λ f. c.seen_at-seen.ensures.looked_2 (ap spot_of c.in_default-seen.is);
+      result_value = all_filled k c.in_default-unfilled_at.ensures ∙ past;
+      looked_2 = λ f. c.in_default-seen_at.ensures.looked_2 refl;
     }
