@@ -1,6 +1,6 @@
 -- The steps put together: the fan to the chosen ends may be asked for (`fan_layable`), its paths may be closed (`fan-rows`), and closed they are the bundle
 -- (`bundle_laid`); and the same of the places as they are lent (`lent_layable`, `lent_rows`, `lent_laid`). Assumes nothing.
-use Rattle.std.specs.Prelude.{ℕ, ◌+◌, ◌-◌, ◌*◌, ◌≤◌, ◌<◌, ◌≡◌, refl, Bool, true, false, List, [], ◌∷◌, ◌++◌, eqb, length, take, drop}
+use Rattle.std.specs.Prelude.{ℕ, ◌+◌, ◌-◌, ◌*◌, ◌≤◌, ◌<◌, ◌≡◌, refl, Bool, true, false, List, [], ◌∷◌, ◌++◌, eqb, length, take, drop, Ok}
 use Rattle.std.proofs.Common.{sym, ap₂, ◌∙◌, subst, append-nil, length-append, length-drop, length-take-le, take_all, get_or-append-add, get_or-drop, le-ltb}
 use Rattle.std.proofs.Math.Path.{ap}
 use Rattle.std.proofs.Math.Option.{none}
@@ -8,7 +8,6 @@ use native.Mathlib.Omega.{arith}
 use Rattle.std.proofs.Math.ListN.{get_or}
 use Rattle.std.proofs.Math.Seq.{drop-length}
 use Rattle.scan.specs.Scan.{pick}
-use Rattle.answers.specs.declared.Checked.TheVariants as checked
 use Rattle.paths.specs.Mesh.{Mesh, width}
 use Rattle.paths.specs.Fan.{filler, relay, hops, Fan}
 use Rattle.paths.specs.Lists.{Laid}
@@ -62,7 +61,7 @@ module _ (kind n s t k w : ℕ) (l places counts : List ℕ) (p : Layable kind n
         simp (le-ltb (length (drop k places)) (length (take k l) * width m) fits, le-ltb (length counts) (length (take k l)) counted);
   }
 
-  module _ (mid counts₁ : List ℕ) (f : requests.Planned none (mesh_of kind n) s (take k l) (drop k places) counts checked.Fine mid counts₁) where
+  module _ (mid counts₁ : List ℕ) (f : requests.Planned none (mesh_of kind n) s (take k l) (drop k places) counts (Ok tt) mid counts₁) where
     fan : Fan (mesh_of kind n) s (take k l) mid counts₁
     fan = f.paths refl
 
@@ -121,7 +120,7 @@ module _ (kind n s t k w : ℕ) (l places counts : List ℕ) (p : Layable kind n
           (ends_many kind n s t k ends links l many c) (ends-each kind n s t k ends links l many c) path (fan_lists m s (take k l) mid counts₁ fan))
           closed-laid
 
-      pub bundle_laid : length places₂ ≡ length (take k places ++ mid) → length counts₂ ≡ length counts₁ → Planned none (mesh_of kind n) s t places counts checked.Fine places₂ counts₂
+      pub bundle_laid : length places₂ ≡ length (take k places ++ mid) → length counts₂ ≡ length counts₁ → Planned none (mesh_of kind n) s t places counts (Ok tt) places₂ counts₂
       bundle_laid long long_counts =
           requests.granted_as m.links (width (longer m)) (Bundle m s t) places counts places₂ counts₂ refl bundle
           (λ i h. beyond i (subst (λ (x : ℕ). x * (w + 1) ≤ i) (sym links) (subst (λ (x : ℕ). m.links * (x + 1) ≤ i) (sym wide) h)))
@@ -166,16 +165,16 @@ module _ (kind n s t k w : ℕ) (l places counts : List ℕ) (p : Layable kind n
   pub lent_layable : planner.Layable kind n s (take k l) (length (take (length places - k) (drop k places))) (length counts)
   lent_layable = subst (λ (x : List ℕ). planner.Layable kind n s (take k l) (length x) (length counts)) (sym part) fan_layable
 
-  module _ (mid counts₁ : List ℕ) (f : requests.Planned none (mesh_of kind n) s (take k l) (take (length places - k) (drop k places)) counts checked.Fine mid counts₁) where
-    taken : requests.Planned none (mesh_of kind n) s (take k l) (drop k places) counts checked.Fine mid counts₁
-    taken = subst (λ (x : List ℕ). requests.Planned none (mesh_of kind n) s (take k l) x counts checked.Fine mid counts₁) part f
+  module _ (mid counts₁ : List ℕ) (f : requests.Planned none (mesh_of kind n) s (take k l) (take (length places - k) (drop k places)) counts (Ok tt) mid counts₁) where
+    taken : requests.Planned none (mesh_of kind n) s (take k l) (drop k places) counts (Ok tt) mid counts₁
+    taken = subst (λ (x : List ℕ). requests.Planned none (mesh_of kind n) s (take k l) x counts (Ok tt) mid counts₁) part f
 
     pub lent_rows : Rows w k (length l) (length (take k places ++ (mid ++ drop (length places - k) (drop k places)))) counts₁
     lent_rows = subst (λ (x : List ℕ). Rows w k (length l) (length x) counts₁) (sym (back_is mid)) (fan-rows mid counts₁ taken)
 
     pub lent_laid : (places₂ counts₂ : List ℕ) → Closed w k l t k (take k places ++ (mid ++ drop (length places - k) (drop k places))) places₂ counts₁ counts₂
         → length places₂ ≡ length (take k places ++ (mid ++ drop (length places - k) (drop k places))) → length counts₂ ≡ length counts₁
-        → Planned none (mesh_of kind n) s t places counts checked.Fine places₂ counts₂
+        → Planned none (mesh_of kind n) s t places counts (Ok tt) places₂ counts₂
     lent_laid places₂ counts₂ g long long_counts =
         bundle_laid mid counts₁ taken places₂ counts₂ (subst (λ (x : List ℕ). Closed w k l t k x places₂ counts₁ counts₂) (back_is mid) g)
         (long ∙ ap length (back_is mid)) long_counts

@@ -1,12 +1,12 @@
 -- What each kind's planner asks and gives is what laying a fan over every kind asks and promises: `cube_sought`, `cube-laid`, `two-asked`, `two-laid`.
 -- Assumes nothing.
-use Rattle.std.specs.Prelude.{ℕ, ◌≤◌, ◌≡◌, refl, Bool, true, false, ◌≢◌, List, length}
+use Rattle.std.specs.Prelude.{ℕ, ◌≤◌, ◌≡◌, refl, Bool, true, false, ◌≢◌, List, length, Ok}
 use Rattle.std.proofs.Common.{sym, ap, ◌∙◌, subst}
+use Rattle.std.proofs.Math.Decide.{ℕ_discrete}
 use Rattle.std.proofs.Math.Option.{Option, none}
 use Rattle.answers.specs.Order.{refuse}
 use Rattle.answers.specs.declared.Refusal.{Refusal}
 use Rattle.answers.specs.declared.Refusal.TheVariants.{NoRoom}
-use Rattle.answers.specs.declared.Checked.TheVariants as checked
 use Rattle.paths.specs.Mesh.{width}
 use Rattle.cube.specs.Cube.{cube}
 use Rattle.two_parts.specs.Two.{two}
@@ -30,7 +30,7 @@ module _ (k n s : ℕ) (targets places counts : List ℕ) (p : Layable k n s tar
   Asks K = (planned_against K n s targets false ≡ none) × (short (K.mesh n) (length targets) (length places) (length counts) ≡ false)
 
   abbrev Gives : (places₁ counts₁ : List ℕ) → Kind → Type 0
-  Gives places₁ counts₁ K = Planned none (K.mesh n) s targets places counts checked.Fine places₁ counts₁
+  Gives places₁ counts₁ K = Planned none (K.mesh n) s targets places counts (Ok tt) places₁ counts₁
 
   fine : Fine (kind_of k) n s targets × ((kind_of k).planned ≡ true)
   fine = plan_fine (kind_of k) n s targets p.clear
@@ -56,7 +56,7 @@ module _ (k n s : ℕ) (targets places counts : List ℕ) (p : Layable k n s tar
     cube-laid {places₁} {counts₁} g long long_counts =
         let laid = laid_out n s 0 targets places counts cube-asked cube_asks.1 places₁ counts₁ g long long_counts in
         subst (Gives places₁ counts₁) (as_cube (λ (K : Kind). K) e)
-        (subst (λ (o : Option Refusal). Planned o (cube n) s targets places counts checked.Fine places₁ counts₁) (ap (λ (b : Bool). refuse b NoRoom none) cube_asks.1) laid.planned)
+        (subst (λ (o : Option Refusal). Planned o (cube n) s targets places counts (Ok tt) places₁ counts₁) (ap (λ (b : Bool). refuse b NoRoom none) cube_asks.1) laid.planned)
 
   module _ (ne : k ≢ CUBE) (e : k ≡ TWO) where
     two_asks : Asks twos
@@ -79,3 +79,11 @@ module _ (k n s : ℕ) (targets places counts : List ℕ) (p : Layable k n s tar
   -- no other mesh is planned
   pub none_left : k ≢ CUBE → k ≢ TWO → {places₁ counts₁ : List ℕ} → Gives places₁ counts₁ (kind_of k)
   none_left ne nt = absurd (no_planned k n (known-planned k n fine.0.known fine.1) ne nt)
+
+  -- what is no cube is a two-level mesh
+  pub two_left : k ≢ CUBE → k ≡ TWO
+  two_left ne = go (ℕ_discrete k TWO)
+    where
+      go : Dec (k ≡ TWO) → k ≡ TWO
+      go (yes e) = e
+      go (no nt) = absurd (no_planned k n (known-planned k n fine.0.known fine.1) ne nt)

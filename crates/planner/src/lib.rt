@@ -2,29 +2,25 @@
 #![tactic(auto)]
 
 ghost use Rattle.std.proofs.Math.Option.{none};
-ghost use Rattle.std.specs.Prelude.{length};
-ghost use Rattle.answers.specs.declared.Checked.TheVariants as checked;
+ghost use Rattle.std.specs.Prelude.{Ok, length};
 ghost use Rattle.mesh.specs.Kinds.{kind_of, mesh_of};
 ghost use Rattle.mesh.specs.Says.{planned_against, short};
 ghost use Rattle.requests.specs.Planned.{Planned};
 ghost use Rattle.planner.specs.Needs.{Layable};
 
-use answers::{Checked, Refusal};
+use answers::Refusal;
 use mesh::Mesh;
 
 // A fan for a request that was checked, and has room. Inner: who calls it has looked for 1, 52, 2 to 8.
 pub fn lay(mesh: Mesh, source: u64, targets: &[u64], places: &mut [u64], counts: &mut [u64])
     requires { Layable mesh.kind mesh.size source targets.now (length places.old) (length counts.old) }
-    ensures { Planned none (mesh_of mesh.kind mesh.size) source targets.now places.old counts.old checked.Fine places.new counts.new }
+    ensures { Planned none (mesh_of mesh.kind mesh.size) source targets.now places.old counts.old (Ok tt) places.new counts.new }
 {
     if mesh.kind == Mesh::CUBE {
         cube_split::fan_through(mesh.size as u32, source, 0, targets, places, counts);
-        return;
-    }
-    if mesh.kind == Mesh::TWO {
+    } else {
         let w = mesh::places_in(mesh) as usize;
         two_plan::lay(mesh.size as u32, source, targets, w, places, counts);
-        return;
     }
 }
 
@@ -37,16 +33,13 @@ pub fn plan(
     targets: &[u64],
     places: &mut [u64],
     counts: &mut [u64],
-) -> Checked
+) -> Result<(), Refusal>
     ensures { Planned (planned_against (kind_of mesh.kind) mesh.size source targets.now (short (mesh_of mesh.kind mesh.size) (length targets.now) (length places.old) (length counts.old))) (mesh_of mesh.kind mesh.size) source targets.now places.old counts.old result places.new counts.new }
 {
-    let checked = mesh::plan_request(mesh, source, targets);
-    if let Checked::Refused(why) = checked {
-        return Checked::Refused(why);
-    }
+    mesh::plan_request(mesh, source, targets)?;
     if mesh::short(mesh, targets.len(), places.len(), counts.len()) {
-        return Checked::Refused(Refusal::NoRoom);
+        return Err(Refusal::NoRoom);
     }
     lay(mesh, source, targets, places, counts);
-    Checked::Fine
+    Ok(())
 }

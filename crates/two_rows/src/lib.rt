@@ -4,6 +4,8 @@
 ghost use Rattle.std.specs.Prelude.{◌≡◌, ℕ};
 ghost use Rattle.two_rows.specs.Rows.{Few, Started, Ask, Gives};
 
+use cube_split::Start;
+
 // Begins the row of each member of the set with its target.
 fn start_rows(set: u64, to: &[u64; 16], grid: &mut [u64; 560])
     requires { Few set }
@@ -23,5 +25,5 @@ pub fn plan_rows(free: u64, s: u64, shut: u64, set: u64, to: &[u64; 16], grid: &
     ensures { Gives free s shut set to.now grid.new }
 {
     start_rows(set, to, grid);
-    cube_split::plan(free, s, shut, set, 35, grid);
+    cube_split::plan(Start { free, s, shut }, set, 35, grid);
 }
