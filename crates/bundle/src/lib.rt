@@ -2,10 +2,9 @@
 // closed with the target. It is planned in the lent places alone.
 #![tactic(auto)]
 
-ghost use Rattle.std.specs.Prelude.{◌≡◌, ℕ, ◌+◌, ◌*◌, ◌<◌, ◌≤◌, eqb, length, get_or};
+ghost use Rattle.std.specs.Prelude.{◌≡◌, Ok, ℕ, ◌+◌, ◌*◌, ◌<◌, ◌≤◌, eqb, length, get_or};
 ghost use Rattle.std.proofs.Math.Option.{none};
 ghost use Rattle.scan.specs.Scan.{pick};
-ghost use Rattle.answers.specs.declared.Checked.TheVariants as checked;
 ghost use Rattle.mesh.specs.Kinds.{kind_of, mesh_of};
 ghost use Rattle.mesh.specs.Limits.{most_links};
 ghost use Rattle.mesh.specs.Says.{bundle_against, bundle_short};
@@ -14,7 +13,7 @@ ghost use Rattle.bundle.specs.Needs.{Layable, Pair};
 ghost use Rattle.bundle.specs.Ends.{Chosen};
 ghost use Rattle.bundle.specs.Closing.{Closable, Row, Rows, Closed};
 
-use answers::{Checked, Refusal};
+use answers::Refusal;
 use mesh::Mesh;
 use paths::FILLER;
 
@@ -30,10 +29,8 @@ fn choose(mesh: Mesh, source: u64, target: u64, k: usize, ends: &mut [u64])
     requires { Pair mesh.kind mesh.size source target k (length ends.old) }
     ensures { Chosen ((kind_of mesh.kind).near mesh.size) source target k ends.new }
 {
-    let mut i: usize = 0;
-    while i < k {
+    for i in 0..k {
         ends[i] = end_of(mesh::near(mesh, target, i as u64), source, target);
-        i += 1;
     }
 }
 
@@ -57,8 +54,7 @@ fn close_all(w: usize, k: usize, ends: &[u64], target: u64, places: &mut [u64], 
     requires { Rows w k (length ends.now) (length places.old) counts.old }
     ensures { Closed w k ends.now target k places.old places.new counts.old counts.new }
 {
-    let mut i: usize = 0;
-    while i < k {
+    for i in 0..k {
         let h = close(
             w,
             i * (w + 1),
@@ -69,7 +65,6 @@ fn close_all(w: usize, k: usize, ends: &[u64], target: u64, places: &mut [u64], 
             places,
         );
         counts[i] = h;
-        i += 1;
     }
 }
 
@@ -83,7 +78,7 @@ fn lay_in(
     counts: &mut [u64],
 )
     requires { (Layable mesh.kind mesh.size source target (length places.old) (length counts.old)) × (most_links ≤ length ends.old) }
-    ensures { Planned none (mesh_of mesh.kind mesh.size) source target places.old counts.old checked.Fine places.new counts.new }
+    ensures { Planned none (mesh_of mesh.kind mesh.size) source target places.old counts.old (Ok tt) places.new counts.new }
 {
     let k = mesh::links_in(mesh) as usize;
     let w = mesh::places_in(mesh) as usize;
@@ -95,7 +90,7 @@ fn lay_in(
 // The same, with the list on the stack: a number for each link.
 fn lay(mesh: Mesh, source: u64, target: u64, places: &mut [u64], counts: &mut [u64])
     requires { Layable mesh.kind mesh.size source target (length places.old) (length counts.old) }
-    ensures { Planned none (mesh_of mesh.kind mesh.size) source target places.old counts.old checked.Fine places.new counts.new }
+    ensures { Planned none (mesh_of mesh.kind mesh.size) source target places.old counts.old (Ok tt) places.new counts.new }
 {
     let mut ends = [0u64; mesh::MOST_LINKS];
     lay_in(mesh, source, target, &mut ends, places, counts);
@@ -104,16 +99,19 @@ fn lay(mesh: Mesh, source: u64, target: u64, places: &mut [u64], counts: &mut [u
 // As many paths as a relay has links, from the source to the target, that share nothing but the two. Path i comes by link i of the target. It stands from the
 // place i * W on, where W is `mesh.bundle_places()`, source first and 2^64 - 1 in the places after its end; its hops stand in the counts at i. In the cube of 2 dimensions,
 // from 0 to 3, they are 0, 2, 3 and 0, 1, 3. Refuses with 1, 52, 2, 5, 6, 8, and then changes nothing.
-pub fn plan(mesh: Mesh, source: u64, target: u64, places: &mut [u64], counts: &mut [u64]) -> Checked
+pub fn plan(
+    mesh: Mesh,
+    source: u64,
+    target: u64,
+    places: &mut [u64],
+    counts: &mut [u64],
+) -> Result<(), Refusal>
     ensures { Planned (bundle_against (kind_of mesh.kind) mesh.size source target (bundle_short (mesh_of mesh.kind mesh.size) (length places.old) (length counts.old))) (mesh_of mesh.kind mesh.size) source target places.old counts.old result places.new counts.new }
 {
-    let checked = mesh::ends(mesh, source, target);
-    if let Checked::Refused(why) = checked {
-        return Checked::Refused(why);
-    }
+    mesh::ends(mesh, source, target)?;
     if mesh::bundle_short(mesh, places.len(), counts.len()) {
-        return Checked::Refused(Refusal::NoRoom);
+        return Err(Refusal::NoRoom);
     }
     lay(mesh, source, target, places, counts);
-    Checked::Fine
+    Ok(())
 }

@@ -1,5 +1,5 @@
 -- `bundle::choose` meets its contract. The loop's invariant: the first i ends are chosen. Assumes nothing.
-use Rattle.std.proofs.Common.{ℕ, ◌-◌, ◌≤◌, ◌≡◌, List, length}
+use Rattle.std.proofs.Common.{ℕ, ◌≤◌, ◌≡◌, List, length}
 use Rattle.mesh.specs.Kinds.{kind_of}
 use Rattle.bundle.specs.Needs.{Pair}
 use Rattle.bundle.specs.Ends.{Chosen}
@@ -13,6 +13,3 @@ pub record Inv (kind size s t k : ℕ) (l₀ l : List ℕ) (i : ℕ) : Type 0 wh
 
 abbrev pub invariant-loop-i : goal.invariant-loop-i
 invariant-loop-i l = Inv l.mesh.kind l.mesh.size l.source l.target l.k l.initial.ends l.ends l.i
-
-abbrev pub decreases-loop-i : goal.decreases-loop-i
-decreases-loop-i l = l.k - l.i

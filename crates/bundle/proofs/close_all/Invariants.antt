@@ -1,5 +1,5 @@
 -- `bundle::close_all` meets its contract. The loop's invariant: the first i rows are closed, the others are where they were. Assumes nothing.
-use Rattle.std.proofs.Common.{ℕ, ◌-◌, ◌≤◌, ◌≡◌, List, length}
+use Rattle.std.proofs.Common.{ℕ, ◌≤◌, ◌≡◌, List, length}
 use Rattle.bundle.specs.Closing.{Rows, Closed}
 use Rattle.bundle.proofs.close_all.Given as goal
 
@@ -12,6 +12,3 @@ pub record Inv (w k : ℕ) (ends : List ℕ) (t : ℕ) (l m c d : List ℕ) (i :
 
 abbrev pub invariant-loop-i : goal.invariant-loop-i
 invariant-loop-i l = Inv l.w l.k l.ends l.target l.initial.places l.places l.initial.counts l.counts l.i
-
-abbrev pub decreases-loop-i : goal.decreases-loop-i
-decreases-loop-i l = l.k - l.i
