@@ -12,12 +12,12 @@ import tempfile
 
 import partial
 
-HEAD = "#![tactic(auto)]\n\nuse answers::Answer;\nuse answers::YesNo;\nuse two::Block;\nuse two::Order;\nuse two::Slot;\n"
-RIGHT = "pub fn f(b: Block, p: Slot) -> YesNo { two::linked_parts(Order(2), b, p, b, p) }"
+HEAD = "#![tactic(auto)]\n\nuse answers::Refusal;\nuse two::Block;\nuse two::Order;\nuse two::Slot;\n"
+RIGHT = "pub fn f(b: Block, p: Slot) -> Result<bool, Refusal> { two::linked(Order(2), (b, p), (b, p)) }"
 WRONG = {
-    "a slot passed as a block": "pub fn f(b: Block, p: Slot) -> YesNo { two::linked_parts(Order(2), p, p, b, p) }",
-    "a block passed as a slot": "pub fn f(b: Block, p: Slot) -> Answer { two::next_hop_parts(Order(2), b, p, b, b) }",
-    "a number passed as a block": "pub fn f(b: u64, p: Slot) -> Answer { two::seen_parts(Order(2), b, p, b, p) }",
+    "a slot passed as a block": "pub fn f(b: Block, p: Slot) -> Result<bool, Refusal> { two::linked(Order(2), (p, p), (b, p)) }",
+    "a block passed as a slot": "pub fn f(b: Block, p: Slot) -> Result<u64, Refusal> { two::next_hop(Order(2), (b, p), (b, b)) }",
+    "a number passed as a block": "pub fn f(b: u64, p: Slot) -> Result<u64, Refusal> { two::seen(Order(2), (b, p), (b, p)) }",
 }
 
 
@@ -36,7 +36,7 @@ def main():
             sys.exit(f"the right code is refused:\n{words[-800:]}")
         for name, code in WRONG.items():
             status, words = said(sources, code)
-            if status == 0 or "mismatched-types" not in words:
+            if status == 0 or not ("mismatched-types" in words or "unsatisfied-bound" in words):
                 sys.exit(f"{name}: not refused for its types\n{words[-800:]}")
             print(f"{name}: refused")
 

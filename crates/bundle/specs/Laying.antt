@@ -1,6 +1,6 @@
 -- The steps put together: the fan to the chosen ends may be asked for (`fan_layable`), its paths may be closed (`fan-rows`), and closed they are the bundle
 -- (`bundle_laid`); and the same of the places as they are lent (`lent_layable`, `lent_rows`, `lent_laid`). Assumes nothing.
-use Rattle.std.specs.Prelude.{ℕ, ◌+◌, ◌-◌, ◌*◌, ◌≤◌, ◌<◌, ◌≡◌, refl, Bool, true, false, List, [], ◌∷◌, ◌++◌, eqb, length, take, drop, Result, Ok, Err, ⊤}
+use Rattle.std.specs.Prelude.{ℕ, ◌+◌, ◌-◌, ◌*◌, ◌≤◌, ◌<◌, ◌≡◌, refl, Bool, true, false, List, [], ◌∷◌, ◌++◌, eqb, length, take, drop, Ok}
 use Rattle.std.proofs.Common.{sym, ap₂, ◌∙◌, subst, append-nil, length-append, length-drop, length-take-le, take_all, get_or-append-add, get_or-drop, le-ltb}
 use Rattle.std.proofs.Math.Path.{ap}
 use Rattle.std.proofs.Math.Option.{none}

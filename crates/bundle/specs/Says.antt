@@ -1,6 +1,6 @@
 -- What the planner over bundles promises: what stands against the two ends is told, and then nothing is changed; else a bundle stands in the lent slices, and what
 -- lies beyond it is as it was.
-use Rattle.std.specs.Prelude.{ℕ, List, Result, Ok, Err, ⊤}
+use Rattle.std.specs.Prelude.{ℕ, List, Result, ⊤}
 use Rattle.std.proofs.Math.Option.{Option}
 use Rattle.answers.specs.declared.Refusal.{Refusal}
 use Rattle.paths.specs.Mesh.{Mesh, width}

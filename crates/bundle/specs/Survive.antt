@@ -1,6 +1,6 @@
 -- What is planned is what the judge passes (`plan_clean`), and what failures leave of it, from the request to the count: with neither end stopped, at least as many
 -- whole paths as a relay has links, less the different relays that have stopped and the different links that are cut (`plan_survives`). Assumes nothing.
-use Rattle.std.specs.Prelude.{ℕ, ◌+◌, ◌≤◌, ◌≡◌, Bool, false, List, Result, Ok, Err, ⊤}
+use Rattle.std.specs.Prelude.{ℕ, ◌+◌, ◌≤◌, ◌≡◌, Bool, false, List, Result, ⊤}
 use Rattle.std.proofs.Common.{sym, ◌∙◌}
 use Rattle.std.proofs.Math.Option.{Option, none}
 use Rattle.answers.specs.Told.{against}

@@ -2,7 +2,7 @@
 // closed with the target. It is planned in the lent places alone.
 #![tactic(auto)]
 
-ghost use Rattle.std.specs.Prelude.{◌≡◌, ℕ, ◌+◌, ◌*◌, ◌<◌, ◌≤◌, eqb, length, get_or};
+ghost use Rattle.std.specs.Prelude.{◌≡◌, Ok, ℕ, ◌+◌, ◌*◌, ◌<◌, ◌≤◌, eqb, length, get_or};
 ghost use Rattle.std.proofs.Math.Option.{none};
 ghost use Rattle.scan.specs.Scan.{pick};
 ghost use Rattle.mesh.specs.Kinds.{kind_of, mesh_of};
@@ -55,7 +55,7 @@ fn close_all(w: usize, k: usize, ends: &[u64], target: u64, places: &mut [u64], 
     ensures { Closed w k ends.now target k places.old places.new counts.old counts.new }
 {
     for i in 0..k {
-        counts[i] = close(
+        let h = close(
             w,
             i * (w + 1),
             k + i * w,
@@ -64,6 +64,7 @@ fn close_all(w: usize, k: usize, ends: &[u64], target: u64, places: &mut [u64], 
             target,
             places,
         );
+        counts[i] = h;
     }
 }
 
@@ -98,7 +99,13 @@ fn lay(mesh: Mesh, source: u64, target: u64, places: &mut [u64], counts: &mut [u
 // As many paths as a relay has links, from the source to the target, that share nothing but the two. Path i comes by link i of the target. It stands from the
 // place i * W on, where W is `mesh.bundle_places()`, source first and 2^64 - 1 in the places after its end; its hops stand in the counts at i. In the cube of 2 dimensions,
 // from 0 to 3, they are 0, 2, 3 and 0, 1, 3. Refuses with 1, 52, 2, 5, 6, 8, and then changes nothing.
-pub fn plan(mesh: Mesh, source: u64, target: u64, places: &mut [u64], counts: &mut [u64]) -> Result<(), Refusal>
+pub fn plan(
+    mesh: Mesh,
+    source: u64,
+    target: u64,
+    places: &mut [u64],
+    counts: &mut [u64],
+) -> Result<(), Refusal>
     ensures { Planned (bundle_against (kind_of mesh.kind) mesh.size source target (bundle_short (mesh_of mesh.kind mesh.size) (length places.old) (length counts.old))) (mesh_of mesh.kind mesh.size) source target places.old counts.old result places.new counts.new }
 {
     mesh::ends(mesh, source, target)?;

@@ -6,7 +6,7 @@ ghost use Rattle.std.specs.Prelude.{◌≡◌, ℕ, ◌+◌, ◌-◌, ◌*◌, �
 ghost use Rattle.cube_split.specs.Plan.{Asked, Planned};
 ghost use Rattle.cube_split.specs.Fan.{Begun, Settled, Spread, Sought, Given};
 
-use cube_moves::Start;
+pub use cube_moves::Start;
 use paths::FILLER;
 
 // Paths from the start to the targets of the rows m, in the dimensions that are free there, through doors that are not shut.

@@ -1,7 +1,8 @@
 -- What each kind's planner asks and gives is what laying a fan over every kind asks and promises: `cube_sought`, `cube-laid`, `two-asked`, `two-laid`.
 -- Assumes nothing.
-use Rattle.std.specs.Prelude.{ℕ, ◌≤◌, ◌≡◌, refl, Bool, true, false, ◌≢◌, List, length, Result, Ok, Err, ⊤}
+use Rattle.std.specs.Prelude.{ℕ, ◌≤◌, ◌≡◌, refl, Bool, true, false, ◌≢◌, List, length, Ok}
 use Rattle.std.proofs.Common.{sym, ap, ◌∙◌, subst}
+use Rattle.std.proofs.Math.Decide.{ℕ_discrete}
 use Rattle.std.proofs.Math.Option.{Option, none}
 use Rattle.answers.specs.Order.{refuse}
 use Rattle.answers.specs.declared.Refusal.{Refusal}
@@ -78,3 +79,11 @@ module _ (k n s : ℕ) (targets places counts : List ℕ) (p : Layable k n s tar
   -- no other mesh is planned
   pub none_left : k ≢ CUBE → k ≢ TWO → {places₁ counts₁ : List ℕ} → Gives places₁ counts₁ (kind_of k)
   none_left ne nt = absurd (no_planned k n (known-planned k n fine.0.known fine.1) ne nt)
+
+  -- what is no cube is a two-level mesh
+  pub two_left : k ≢ CUBE → k ≡ TWO
+  two_left ne = go (ℕ_discrete k TWO)
+    where
+      go : Dec (k ≡ TWO) → k ≡ TWO
+      go (yes e) = e
+      go (no nt) = absurd (no_planned k n (known-planned k n fine.0.known fine.1) ne nt)

@@ -1,6 +1,7 @@
 -- What failures leave of a plan, from the request to the count: at least as many whole paths as there are paths, less the different relays that have stopped and
 -- the different links that are cut (`plan_survives`). Assumes nothing.
-use Rattle.std.specs.Prelude.{ℕ, ◌+◌, ◌≤◌, ◌≡◌, Bool, false, List, length, Result, Ok, Err, ⊤}
+use Rattle.std.specs.Prelude.{ℕ, ◌+◌, ◌≤◌, ◌≡◌, Bool, false, List, length, Result, ⊤}
+use Rattle.answers.specs.declared.Refusal.{Refusal}
 use Rattle.std.proofs.Common.{sym, ◌∙◌}
 use Rattle.std.proofs.Math.Option.{none}
 use Rattle.answers.specs.Told.{against}

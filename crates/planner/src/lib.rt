@@ -2,7 +2,7 @@
 #![tactic(auto)]
 
 ghost use Rattle.std.proofs.Math.Option.{none};
-ghost use Rattle.std.specs.Prelude.{length};
+ghost use Rattle.std.specs.Prelude.{Ok, length};
 ghost use Rattle.mesh.specs.Kinds.{kind_of, mesh_of};
 ghost use Rattle.mesh.specs.Says.{planned_against, short};
 ghost use Rattle.requests.specs.Planned.{Planned};
@@ -18,7 +18,7 @@ pub fn lay(mesh: Mesh, source: u64, targets: &[u64], places: &mut [u64], counts:
 {
     if mesh.kind == Mesh::CUBE {
         cube_split::fan_through(mesh.size as u32, source, 0, targets, places, counts);
-    } else if mesh.kind == Mesh::TWO {
+    } else {
         let w = mesh::places_in(mesh) as usize;
         two_plan::lay(mesh.size as u32, source, targets, w, places, counts);
     }

@@ -1,7 +1,7 @@
 -- All choices together: from what the parts give to the facts that the plan rests on (`Chose`). Assumes nothing.
 use Rattle.std.specs.Prelude.{ℕ, zero, suc, ◌+◌, ◌-◌, ◌^◌, ◌≤◌, ◌<◌, ◌≡◌, refl, ◌≢◌, List, [], ◌∷◌}
 use Rattle.std.proofs.Common.{sym, ◌∙◌, subst, ⊎_elim, arith, pow_mono}
-use Rattle.std.specs.Int.Bits.{bit_or}
+use Rattle.std.specs.Int.Bits.{bit_and, bit_or}
 use Rattle.std.specs.Int.Count.{ones}
 use Rattle.bits.specs.Bit.{bit, flip}
 use Rattle.bits.specs.Laws.{bit-cases}
@@ -12,7 +12,7 @@ use Rattle.two_math.specs.Gates.{Gates}
 use Rattle.two_math.specs.Sort.{Ask, Sorts, sorts_from, Keeps, keeps_from, Ends, ends-from, Classes, doors_enough}
 use Rattle.two_math.specs.Shut.{Opening, Shuts, keep-below, shuts_when}
 use Rattle.two_gate.specs.Says.{Small}
-use Rattle.two_choose.specs.Masks.{Equals, Few, common, chosen_common, chosen_less}
+use Rattle.two_choose.specs.Masks.{Equals, Few, chosen_both, chosen_less, chosen_to}
 use Rattle.two_choose.specs.Choice.{Gated, Hidden, GateAsk, GateAll}
 use Rattle.two_choose.specs.Doors.{Blocked, Ended, end_gated, end_plain, DoorAsk}
 
@@ -33,10 +33,6 @@ pub record Chose (m s0 p0 k : ℕ) (blocks slots : List ℕ) (inner gated straig
   pub keeps : Keeps s0 (at blocks) kept gated (at gates) straight keep
   pub end : Ends s0 k (at blocks) inner gated (at gates) straight keep 8 singles reps rows (at ends)
   pub shuts : Shuts m p0 keep rows shut
-
--- the same sets by other words
-chosen_to : {A B C D : ℕ → Type 0} {s r : ℕ} → ((j : ℕ) → bit j s ≡ 1 → A j → C j) → ((j : ℕ) → bit j s ≡ 1 → B j → D j) → Chosen A B s r → Chosen C D s r
-chosen_to f g c = record { sub = c.sub; holds = λ j o. f j (c.sub j o) (c.holds j o); fails = λ j o z. g j o (c.fails j o z) }
 
 used-to : {R S : ℕ → ℕ → Type 0} {s r : ℕ} → ((j i : ℕ) → bit j s ≡ 1 → R j i → S j i) → Used R s r → Used S s r
 used-to f u = record {
@@ -105,10 +101,10 @@ module _ {m s0 p0 k : ℕ} {blocks slots : List ℕ} (a : Asks m s0 p0 k blocks 
       gated_few = few_in gated (λ j o. full-below k j (g.sub j o))
 
       module _ {gates behind : List ℕ} (ga : GateAll m s0 k blocks slots gated gates) (b : Blocked blocks gates 8 behind) {home straight : ℕ} (h : Equals behind s0 k home)
-          (is-straight : straight ≡ common gated home) where
+          (is-straight : straight ≡ bit_and gated home) where
         chosen : Chosen (λ j. flip (at blocks j) (at gates j) ≡ s0) (λ j. flip (at blocks j) (at gates j) ≢ s0) gated straight
         chosen = subst (λ (y : ℕ). Chosen (λ j. flip (at blocks j) (at gates j) ≡ s0) (λ j. flip (at blocks j) (at gates j) ≢ s0) gated y) (sym is-straight)
-            (chosen_to (λ j o z. sym (b.is j (gated_few j o)) ∙ z) (λ j o z w. z (b.is j (gated_few j o) ∙ w)) (chosen_common gated gated_full h))
+            (chosen_to (λ j o z. sym (b.is j (gated_few j o)) ∙ z) (λ j o z w. z (b.is j (gated_few j o) ∙ w)) (chosen_both gated gated_full h))
 
         pub straight_few : Few straight
         straight_few = few_in straight (λ j o. full-below k j (g.sub j (chosen.sub j o)))

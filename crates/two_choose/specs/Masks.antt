@@ -2,9 +2,9 @@
 use Rattle.std.specs.Prelude.{ℕ, ◌+◌, ◌-◌, ◌^◌, ◌<◌, ◌≡◌, refl, ◌≢◌, List, Bool, true, false, eqb}
 use Rattle.std.proofs.Common.{sym, ap, ◌∙◌, subst, ⊎_elim, arith}
 use Rattle.std.specs.Int.Count.{ones}
-use Rattle.std.specs.Int.Bits.{bit_or, bit_xor}
+use Rattle.std.specs.Int.Bits.{bit_and, bit_or, bit_xor}
 use Rattle.bits.specs.Bit.{bit, flip, Lowest, OneBit}
-use Rattle.bits.specs.Laws.{bit-cases, bit-none, bit-on, bit_off, clash, flip-other, bit-pow-same, pow-bit, ones_clear, flip-eq}
+use Rattle.bits.specs.Laws.{bit-and, bit-lt, bit-cases, bit-none, bit-on, bit_off, clash, flip-other, bit-pow-same, pow-bit, ones_clear, flip-eq}
 use Rattle.scan.specs.Laws.{true-false}
 use Rattle.cube_math.specs.Masks.{at, less, some-bit}
 use Rattle.cube_math.specs.Choose.{Chosen, cleared, less-on, less-or}
@@ -29,29 +29,28 @@ unfolding added
 chosen_added n true c h g = chosen_yes n c (h refl)
 chosen_added n false c h g = chosen_no n c (g refl)
 
+-- the same set by other words
+pub chosen_to : {A B C D : ℕ → Type 0} {s r : ℕ} → ((j : ℕ) → bit j s ≡ 1 → A j → C j) → ((j : ℕ) → bit j s ≡ 1 → B j → D j) → Chosen A B s r → Chosen C D s r
+chosen_to f g c = record { sub = c.sub; holds = λ j o. f j (c.sub j o) (c.holds j o); fails = λ j o z. g j o (c.fails j o z) }
+
 -- every member is an index of the arrays
 abbrev pub Few : ℕ → Type 0
 Few s = (j : ℕ) → bit j s ≡ 1 → j < 8
 
 -- ---- members of both sets
 
-abbrev pub common : ℕ → ℕ → ℕ
-common a b = less a (less a b)
+pub both-on : (j a b : ℕ) → bit j (bit_and a b) ≡ 1 → (bit j a ≡ 1) × (bit j b ≡ 1)
+both-on j a b o = (omega (arith, bit-and j a b, bit-lt j a), omega (arith, bit-and j a b, bit-lt j b))
 
-pub common-on : (j a b : ℕ) → bit j (common a b) ≡ 1 → (bit j a ≡ 1) × (bit j b ≡ 1)
-common-on j a b o =
-    let p = less-on j a (less a b) o in
-    (p.0, ⊎_elim (λ z. z) (λ z. absurd (clash p.1 z)) (less-or j a b p.0))
-
-pub on-common : (j a b : ℕ) → bit j a ≡ 1 → bit j b ≡ 1 → bit j (common a b) ≡ 1
-on-common j a b p q = ⊎_elim (λ z. absurd (clash (less-on j a b z).1 q)) (λ z. z) (less-or j a (less a b) p)
+pub on-both : (j a b : ℕ) → bit j a ≡ 1 → bit j b ≡ 1 → bit j (bit_and a b) ≡ 1
+on-both j a b p q = omega (arith, bit-and j a b)
 
 -- a test of all, for the members of a set: those that pass, and those that fail
-pub chosen_common : {A B : ℕ → Type 0} {all r : ℕ} (s : ℕ) → ((j : ℕ) → bit j s ≡ 1 → bit j all ≡ 1) → Chosen A B all r → Chosen A B s (common s r)
-chosen_common {A} {B} {all} {r} s sub c = record {
-  sub = λ j o. (common-on j s r o).0;
-  holds = λ j o. c.holds j (common-on j s r o).1;
-  fails = λ j o z. c.fails j (sub j o) (⊎_elim (λ y. y) (λ y. absurd (clash z (on-common j s r o y))) (bit-cases j r));
+pub chosen_both : {A B : ℕ → Type 0} {all r : ℕ} (s : ℕ) → ((j : ℕ) → bit j s ≡ 1 → bit j all ≡ 1) → Chosen A B all r → Chosen A B s (bit_and s r)
+chosen_both {A} {B} {all} {r} s sub c = record {
+  sub = λ j o. (both-on j s r o).0;
+  holds = λ j o. c.holds j (both-on j s r o).1;
+  fails = λ j o z. c.fails j (sub j o) (⊎_elim (λ y. y) (λ y. absurd (clash z (on-both j s r o y))) (bit-cases j r));
 }
 
 pub chosen_less : {A B : ℕ → Type 0} {all r : ℕ} (s : ℕ) → ((j : ℕ) → bit j s ≡ 1 → bit j all ≡ 1) → Chosen A B all r → Chosen B A s (less s r)
@@ -95,14 +94,14 @@ module _ (blocks : List ℕ) (k j same : ℕ) (lt : j < k) (c : Equals blocks (a
 -- ---- a class with no member in r
 
 module _ (blocks : List ℕ) (j r same : ℕ) (few : Few r) (c : Equals blocks (at blocks j) 8 same) where
-  pub class_new : common r same ≡ 0 → (x : ℕ) → bit x r ≡ 1 → at blocks x ≢ at blocks j
+  pub class_new : bit_and r same ≡ 0 → (x : ℕ) → bit x r ≡ 1 → at blocks x ≢ at blocks j
   class_new z x o e =
-      ⊎_elim (λ y. c.fails x (bit-full 8 x (few x o)) y e) (λ y. clash (ap (bit x) z ∙ bit-none x) (on-common x r same o y)) (bit-cases x same)
+      ⊎_elim (λ y. c.fails x (bit-full 8 x (few x o)) y e) (λ y. clash (ap (bit x) z ∙ bit-none x) (on-both x r same o y)) (bit-cases x same)
 
-  pub class_old : common r same ≢ 0 → (x : ℕ) × (bit x r ≡ 1) × (at blocks x ≡ at blocks j)
+  pub class_old : bit_and r same ≢ 0 → (x : ℕ) × (bit x r ≡ 1) × (at blocks x ≡ at blocks j)
   class_old ne =
-      let x = some-bit (common r same) ne in
-      let p = common-on x.0 r same x.1 in
+      let x = some-bit (bit_and r same) ne in
+      let p = both-on x.0 r same x.1 in
       (x.0, p.0, c.holds x.0 p.1)
 
 -- the set of representatives with j, if its class is new

@@ -1,8 +1,8 @@
 -- What the search for a gate slot promises: what may be asked (`Search`), what another target denies of a slot (`Denied`), and that a slot serves
 -- (`Serves`). A candidate that nobody denies serves (`serves`), and one of them does (`some_serves`). Assumes nothing.
-use Rattle.std.specs.Prelude.{ℕ, suc, ◌+◌, ◌^◌, ◌≤◌, ◌<◌, ◌≡◌, refl, ◌⊎◌, ◌≢◌, List, Bool, true, false, get_or, eqb}
-use Rattle.std.proofs.Common.{sym, subst, inl, inr, ⊎_elim, arith, pow_mono, eqb-true}
-use Rattle.std.proofs.lemmas.Bool.{eqb-false}
+use Rattle.std.specs.Prelude.{ℕ, suc, ◌+◌, ◌^◌, ◌≤◌, ◌<◌, ◌≡◌, refl, ◌⊎◌, ◌≢◌, List, Bool, true, false, not, ◌&&◌, get_or, eqb}
+use Rattle.std.proofs.Common.{sym, ◌∙◌, subst, inl, inr, ⊎_elim, arith, pow_mono, eqb-true, eq-eqb}
+use Rattle.std.proofs.lemmas.Bool.{eqb-false, and_parts, and_from}
 use Rattle.bits.specs.Bit.{bit, flip}
 use Rattle.bits.specs.Laws.{lt-or, flip-lt}
 use Rattle.two_math.specs.Gates.{Denies, Passes, Near, Gates, cand, cand-near, passes_when, passes_then, gate-found}
@@ -39,6 +39,20 @@ tells_yes a = record { so = λ e. a; not = λ e. absurd (never true refl e) }
 
 pub tells-same : {A : Type 0} (x y : ℕ) → (x ≡ y → A) → (A → x ≡ y) → Tells A (eqb x y)
 tells-same x y f g = record { so = λ e. f (eqb-true x y e); not = λ e a. eqb-false x y e (g a) }
+
+pub tells_differ : {A : Type 0} (x y : ℕ) → (x ≢ y → A) → (x ≡ y → A → ⊥) → Tells A (not (eqb x y))
+tells_differ {A} x y f g = by (eqb x y) (eqb-true x y) (eqb-false x y)
+  where
+    by : (b : Bool) → (b ≡ true → x ≡ y) → (b ≡ false → x ≢ y) → Tells A (not b)
+    by true t e = tells_no (g (t refl))
+    by false t e = tells_yes (f (e refl))
+
+-- what a test of two pairs tells
+pub tells_pair : (a b c d : ℕ) (r : Bool) → r ≡ (eqb a b && eqb c d) → Tells ((a ≡ b) × (c ≡ d)) r
+tells_pair a b c d r e = record {
+  so = λ z. let p = and_parts (eqb a b) (eqb c d) (sym e ∙ z) in (eqb-true a b p.0, eqb-true c d p.1);
+  not = λ z p. never r (e ∙ and_from (eqb a b) (eqb c d) (eq-eqb a b p.0) (eq-eqb c d p.1)) z;
+}
 
 -- r decides A for each of the targets below n
 abbrev pub None : (A : ℕ → Type 0) → ℕ → Type 0

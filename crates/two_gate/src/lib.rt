@@ -6,14 +6,27 @@ ghost use Rattle.bits.specs.Bit.{bit};
 ghost use Rattle.two_math.specs.Gates.{Passes, cand};
 ghost use Rattle.two_gate.specs.Says.{Tells, Denied, None, Small, Other, Search, Serves};
 
-// Whether a is b and c is d.
-fn both(a: u64, b: u64, c: u64, d: u64) -> bool
-    ensures { Tells ((a ≡ b) × (c ≡ d)) result }
-{
-    if a != b {
-        return false;
-    }
-    c == d
+// Where a fan begins: the order of the mesh, the source's block, and its slot there.
+#[derive(Clone, Copy)]
+pub struct Home {
+    pub order: u32,
+    pub block: u64,
+    pub slot: u32,
+}
+
+// The targets of a request: how many, and the block of each and its slot there.
+#[derive(Clone, Copy)]
+pub struct Targets {
+    pub count: u32,
+    pub blocks: [u64; 8],
+    pub slots: [u32; 8],
+}
+
+// Which targets have a gate, and the gate slot of each that has.
+#[derive(Clone, Copy)]
+pub struct Gates {
+    pub gated: u64,
+    pub slots: [u32; 8],
 }
 
 // Whether the target at (bi, pi) denies the gate slot q of a target in block bj.
@@ -25,10 +38,10 @@ fn denies(s0: u64, bj: u64, q: u32, bi: u64, pi: u32, done: bool, qi: u32) -> bo
     if g == bi {
         return true;
     }
-    if both(bi, bj, q as u64, pi as u64) {
+    if (bi, q) == (bj, pi) {
         return true;
     }
-    if both(bi, s0, g, bits::flip(s0, pi)) {
+    if (bi, g) == (s0, bits::flip(s0, pi)) {
         return true;
     }
     if done {
@@ -49,18 +62,9 @@ fn candidate(m: u32, p: u32, c: u32) -> u32
 }
 
 // Whether the target i denies the gate slot q of the target j.
-fn denied_by(
-    s0: u64,
-    blocks: [u64; 8],
-    slots: [u32; 8],
-    gates: [u32; 8],
-    done: u64,
-    j: u32,
-    q: u32,
-    i: u32,
-) -> bool
-    requires { (i < 8) × (j < 8) × (q < 64) × Small slots × Small gates }
-    ensures { Tells (Other s0 blocks slots gates done j q i) result }
+fn denied_by(s0: u64, targets: &Targets, gates: &Gates, j: u32, q: u32, i: u32) -> bool
+    requires { (i < 8) × (j < 8) × (q < 64) × Small targets.now.slots × Small gates.now.slots }
+    ensures { Tells (Other s0 targets.now.blocks targets.now.slots gates.now.slots gates.now.gated j q i) result }
 {
     if i == j {
         return false;
@@ -69,61 +73,39 @@ fn denied_by(
     let b = j as usize;
     denies(
         s0,
-        blocks[b],
+        targets.blocks[b],
         q,
-        blocks[a],
-        slots[a],
-        bits::bit(done, i),
-        gates[a],
+        targets.blocks[a],
+        targets.slots[a],
+        bits::bit(gates.gated, i),
+        gates.slots[a],
     )
 }
 
-// Whether no target below k denies it.
-fn passes(
-    s0: u64,
-    blocks: [u64; 8],
-    slots: [u32; 8],
-    gates: [u32; 8],
-    done: u64,
-    j: u32,
-    q: u32,
-    k: u32,
-) -> bool
-    requires { (k ≤ 8) × (j < 8) × (q < 64) × Small slots × Small gates }
-    ensures { Tells (None (Other s0 blocks slots gates done j q) k) result }
+// Whether no target denies it.
+fn passes(s0: u64, targets: &Targets, gates: &Gates, j: u32, q: u32) -> bool
+    requires { (targets.now.count ≤ 8) × (j < 8) × (q < 64) × Small targets.now.slots × Small gates.now.slots }
+    ensures { Tells (None (Other s0 targets.now.blocks targets.now.slots gates.now.slots gates.now.gated j q) targets.now.count) result }
 {
-    let mut i: u32 = 0;
-    while i < k {
-        if denied_by(s0, blocks, slots, gates, done, j, q, i) {
+    for i in 0..targets.count {
+        if denied_by(s0, targets, gates, j, q, i) {
             return false;
         }
-        i += 1;
     }
     true
 }
 
 // A slot that serves as the gate of the target j.
-pub fn gate_for(
-    m: u32,
-    s0: u64,
-    k: u32,
-    blocks: [u64; 8],
-    slots: [u32; 8],
-    gates: [u32; 8],
-    done: u64,
-    j: u32,
-) -> u32
-    requires { Search m s0 k blocks slots done gates j }
-    ensures { Serves m s0 k blocks slots done gates j result }
+pub fn gate_for(home: Home, targets: &Targets, gates: &Gates, j: u32) -> u32
+    requires { Search home.order home.block targets.now.count targets.now.blocks targets.now.slots gates.now.gated gates.now.slots j }
+    ensures { Serves home.order home.block targets.now.count targets.now.blocks targets.now.slots gates.now.gated gates.now.slots j result }
 {
-    let p = slots[j as usize];
-    let mut c: u32 = 0;
-    while c <= m {
-        let q = candidate(m, p, c);
-        if passes(s0, blocks, slots, gates, done, j, q, k) {
+    let p = targets.slots[j as usize];
+    for c in 0..=home.order {
+        let q = candidate(home.order, p, c);
+        if passes(home.block, targets, gates, j, q) {
             return q;
         }
-        c += 1;
     }
     p
 }

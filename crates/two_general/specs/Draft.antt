@@ -1,6 +1,6 @@
 -- All that is chosen before a path is written: the targets, the choices, the block paths in a grid, and who takes one over (`State`);
 -- and by which slot each path leaves the source's block (`Leaves`). Assumes nothing.
-use Rattle.std.specs.Prelude.{ℕ, ◌+◌, ◌-◌, ◌^◌, ◌≤◌, ◌<◌, ◌≡◌, ◌≢◌, List, ◌∷◌, length, get_or}
+use Rattle.std.specs.Prelude.{ℕ, ◌+◌, ◌-◌, ◌^◌, ◌≤◌, ◌<◌, ◌≡◌, ◌≢◌, List, ◌∷◌, Option, Some, None, length, get_or}
 use Rattle.std.proofs.Common.{sym, ap, ◌∙◌, subst, ⊎_elim, arith, pow_mono}
 use Rattle.std.specs.Int.Bits.{bit_xor}
 use Rattle.cube_math.specs.Masks.{at}
@@ -17,26 +17,30 @@ use Rattle.two_choose.specs.Chosen.{Asks, Chose}
 use Rattle.two_takeover.specs.declared.Taken.{Taken}
 use Rattle.two_takeover.specs.TakeOver.{OverAsk, Over}
 
+-- the target that takes over; 8, which none is: nobody
+abbrev pub who_of : Option Taken → ℕ
+who_of None = 8
+who_of (Some t) = t.who
+
 -- what was chosen, by the struct that holds it
 abbrev pub Chosen : (m s0 p0 k : ℕ) (blocks slots : List ℕ) (c : Choice) → Type 0
-Chosen m s0 p0 k blocks slots c = Chose m s0 p0 k blocks slots c.inner c.gated c.straight c.singles c.reps c.rows c.shut c.gates c.ends
+Chosen m s0 p0 k blocks slots c = Chose m s0 p0 k blocks slots c.inner c.gates.gated c.straight c.singles c.reps c.rows c.shut c.gates.slots c.ends
 
-abbrev pub Overs : (m s0 p0 k : ℕ) (blocks slots : List ℕ) (c : Choice) (o : Taken) (g : List ℕ) → Type 0
-Overs m s0 p0 k blocks slots c o g = Over m s0 p0 k blocks slots c.gates c.gated c.reps g o.who o.row o.enter o.len o.tail
+abbrev pub Overs : (m s0 p0 k : ℕ) (blocks slots : List ℕ) (c : Choice) (o : Option Taken) (g : List ℕ) → Type 0
+Overs m s0 p0 k blocks slots c o g = Over m s0 p0 k blocks slots c.gates.slots c.gates.gated c.reps g o
 
 -- the block paths stand in the grid
 pub record Planned (m s0 p0 k : ℕ) (blocks slots : List ℕ) (c : Choice) (g : List ℕ) : Type 0 where
   pub asks : Asks m s0 p0 k blocks slots
   pub chose : Chosen m s0 p0 k blocks slots c
   pub fan : Doors (2 ^ m) (2 ^ (2 ^ m) - 1) s0 c.shut c.rows (at c.ends) (hops g)
-  pub long : length g ≡ 560
 
-pub record State (m s0 p0 k : ℕ) (blocks slots : List ℕ) (c : Choice) (o : Taken) (g : List ℕ) : Type 0 where
+pub record State (m s0 p0 k : ℕ) (blocks slots : List ℕ) (c : Choice) (o : Option Taken) (g : List ℕ) : Type 0 where
   pub planned : Planned m s0 p0 k blocks slots c g
   pub over : Overs m s0 p0 k blocks slots c o g
 
 -- j is a target of it
-pub record Inside (s0 p0 : ℕ) (slots : List ℕ) (c : Choice) (o : Taken) (g : List ℕ) (j : ℕ) : Type 0 where
+pub record Inside (s0 p0 : ℕ) (slots : List ℕ) (c : Choice) (o : Option Taken) (g : List ℕ) (j : ℕ) : Type 0 where
   pub m : ℕ
   pub k : ℕ
   pub blocks : List ℕ
@@ -44,23 +48,18 @@ pub record Inside (s0 p0 : ℕ) (slots : List ℕ) (c : Choice) (o : Taken) (g :
   pub state : State m s0 p0 k blocks slots c o g
 
 -- the targets are those of it
-pub record AllInside (s0 p0 k : ℕ) (slots : List ℕ) (c : Choice) (o : Taken) (g : List ℕ) : Type 0 where
+pub record AllInside (s0 p0 k : ℕ) (slots : List ℕ) (c : Choice) (o : Option Taken) (g : List ℕ) : Type 0 where
   pub m : ℕ
   pub blocks : List ℕ
   pub state : State m s0 p0 k blocks slots c o g
 
-pub all-few : {s0 p0 k : ℕ} {slots : List ℕ} {c : Choice} {o : Taken} {g : List ℕ} → AllInside s0 p0 k slots c o g → k ≤ 6
+pub all-few : {s0 p0 k : ℕ} {slots : List ℕ} {c : Choice} {o : Option Taken} {g : List ℕ} → AllInside s0 p0 k slots c o g → k ≤ 6
 all-few a = omega (arith, a.state.planned.asks.ask.few, a.state.planned.asks.high)
 
-pub one_inside : {s0 p0 k : ℕ} {slots : List ℕ} {c : Choice} {o : Taken} {g : List ℕ} {j : ℕ} → AllInside s0 p0 k slots c o g → j < k → Inside s0 p0 slots c o g j
+pub one_inside : {s0 p0 k : ℕ} {slots : List ℕ} {c : Choice} {o : Option Taken} {g : List ℕ} {j : ℕ} → AllInside s0 p0 k slots c o g → j < k → Inside s0 p0 slots c o g j
 one_inside {s0} {p0} {k} {slots} {c} {o} {g} {j} a h = record { m = a.m; k = k; blocks = a.blocks; lt = h; state = a.state }
 
-pub record Somewhere (slots : List ℕ) (c : Choice) (o : Taken) (g : List ℕ) (j : ℕ) : Type 0 where
-  pub s0 : ℕ
-  pub p0 : ℕ
-  pub is : Inside s0 p0 slots c o g j
-
-pub inside_small : {s0 p0 : ℕ} {slots : List ℕ} {c : Choice} {o : Taken} {g : List ℕ} {j : ℕ} → Inside s0 p0 slots c o g j → j < 6
+pub inside_small : {s0 p0 : ℕ} {slots : List ℕ} {c : Choice} {o : Option Taken} {g : List ℕ} {j : ℕ} → Inside s0 p0 slots c o g j → j < 6
 inside_small i = omega (arith, i.lt, i.state.planned.asks.ask.few, i.state.planned.asks.high)
 
 -- ---- what the planner of blocks is asked
@@ -72,7 +71,7 @@ module _ {m s0 p0 k : ℕ} {blocks slots : List ℕ} {c : Choice} (a : Asks m s0
   few-targets : k ≤ 6
   few-targets = omega (arith, a.ask.few, a.high)
 
-  rep_in : (r : ℕ) → bit r c.reps ≡ 1 → (r < k) × (bit r c.gated ≡ 1)
+  rep_in : (r : ℕ) → bit r c.reps ≡ 1 → (r < k) × (bit r c.gates.gated ≡ 1)
   rep_in r o = let g = (h.end.reps_on r o).0 in ((h.sort.gated_on r g).0, g)
 
   pub rows_within : (x : ℕ) → bit x c.rows ≡ 1 → x < 16
@@ -88,7 +87,7 @@ module _ {m s0 p0 k : ℕ} {blocks slots : List ℕ} {c : Choice} {g : List ℕ}
   way-short x o = let q : 2 ^ m ≤ 32 = pow_mono p.asks.high in omega (arith, (way_of x o).short)
 
   -- what the search for a take-over is asked
-  pub over_ask : OverAsk m s0 p0 k blocks slots c.gates c.gated c.reps g
+  pub over_ask : OverAsk m s0 p0 k blocks slots c.gates.slots c.gates.gated c.reps g
   over_ask =
       let e = p.chose.end in
       record {
@@ -96,7 +95,6 @@ module _ {m s0 p0 k : ℕ} {blocks slots : List ℕ} {c : Choice} {g : List ℕ}
         few = omega (arith, few-targets p.asks p.chose);
         home = p.asks.ask.home-slot;
         crowds = record {
-          long = p.long;
           few = λ r o. omega (arith, (rep_in p.asks p.chose r o).0, few-targets p.asks p.chose);
           short = λ r o. way-short (8 + r) (e.row_crowd r o);
           some = λ r o. let d = (way_of (8 + r) (e.row_crowd r o)).door in (flip s0 d.dim, d.rest, d.first);
@@ -108,37 +106,37 @@ module _ {m s0 p0 k : ℕ} {blocks slots : List ℕ} {c : Choice} {g : List ℕ}
 
 -- ---- by which slot the path of j leaves
 
-pub record Leaves (s0 p0 : ℕ) (slots : List ℕ) (c : Choice) (o : Taken) (g : List ℕ) (j r : ℕ) : Type 0 where
-  pub taken : j ≡ o.who → r ≡ p0
-  pub inner : j ≢ o.who → bit j c.inner ≡ 1 → r ≡ at slots j
-  pub straight : j ≢ o.who → bit j c.inner ≡ 0 → bit j c.straight ≡ 1 → r ≡ at c.gates j
-  pub single : j ≢ o.who → bit j c.inner ≡ 0 → bit j c.straight ≡ 0 → (l : List ℕ) × (hops g j ≡ flip s0 r ∷ l)
+pub record Leaves (s0 p0 : ℕ) (slots : List ℕ) (c : Choice) (o : Option Taken) (g : List ℕ) (j r : ℕ) : Type 0 where
+  pub taken : j ≡ who_of o → r ≡ p0
+  pub inner : j ≢ who_of o → bit j c.inner ≡ 1 → r ≡ at slots j
+  pub straight : j ≢ who_of o → bit j c.inner ≡ 0 → bit j c.straight ≡ 1 → r ≡ at c.gates.slots j
+  pub single : j ≢ who_of o → bit j c.inner ≡ 0 → bit j c.straight ≡ 0 → (l : List ℕ) × (hops g j ≡ flip s0 r ∷ l)
 
-module _ {s0 p0 : ℕ} {slots : List ℕ} {c : Choice} {o : Taken} {g : List ℕ} {j r : ℕ} where
-  pub leaves_taken : j ≡ o.who → r ≡ p0 → Leaves s0 p0 slots c o g j r
+module _ {s0 p0 : ℕ} {slots : List ℕ} {c : Choice} {o : Option Taken} {g : List ℕ} {j r : ℕ} where
+  pub leaves_taken : j ≡ who_of o → r ≡ p0 → Leaves s0 p0 slots c o g j r
   leaves_taken e q = record { taken = λ z. q; inner = λ ne. absurd (ne e); straight = λ ne. absurd (ne e); single = λ ne. absurd (ne e) }
 
-  pub leaves_inner : j ≢ o.who → bit j c.inner ≡ 1 → r ≡ at slots j → Leaves s0 p0 slots c o g j r
+  pub leaves_inner : j ≢ who_of o → bit j c.inner ≡ 1 → r ≡ at slots j → Leaves s0 p0 slots c o g j r
   leaves_inner ne b q = record { taken = λ z. absurd (ne z); inner = λ z w. q; straight = λ z w. absurd (clash w b); single = λ z w. absurd (clash w b) }
 
-  pub leaves_straight : j ≢ o.who → bit j c.inner ≡ 0 → bit j c.straight ≡ 1 → r ≡ at c.gates j → Leaves s0 p0 slots c o g j r
+  pub leaves_straight : j ≢ who_of o → bit j c.inner ≡ 0 → bit j c.straight ≡ 1 → r ≡ at c.gates.slots j → Leaves s0 p0 slots c o g j r
   leaves_straight ne b d q = record { taken = λ z. absurd (ne z); inner = λ z w. absurd (clash b w); straight = λ z w v. q; single = λ z w v. absurd (clash v d) }
 
-  pub leaves_single : j ≢ o.who → bit j c.inner ≡ 0 → bit j c.straight ≡ 0 → (l : List ℕ) → hops g j ≡ flip s0 r ∷ l → Leaves s0 p0 slots c o g j r
+  pub leaves_single : j ≢ who_of o → bit j c.inner ≡ 0 → bit j c.straight ≡ 0 → (l : List ℕ) → hops g j ≡ flip s0 r ∷ l → Leaves s0 p0 slots c o g j r
   leaves_single ne b d l q = record { taken = λ z. absurd (ne z); inner = λ z w. absurd (clash b w); straight = λ z w v. absurd (clash d v); single = λ z w v. (l, q) }
 
 -- ---- the door of a single target
 
-module _ {m s0 p0 k : ℕ} {blocks slots : List ℕ} {c : Choice} {o : Taken} {g : List ℕ} (s : State m s0 p0 k blocks slots c o g) (j : ℕ) (lt : j < k)
+module _ {m s0 p0 k : ℕ} {blocks slots : List ℕ} {c : Choice} {o : Option Taken} {g : List ℕ} (s : State m s0 p0 k blocks slots c o g) (j : ℕ) (lt : j < k)
     (outer : bit j c.inner ≡ 0) (curved : bit j c.straight ≡ 0) where
   pub single_on : bit j c.rows ≡ 1
   single_on = let e = s.planned.chose.end in e.row_single j (e.single_off j lt outer curved)
 
   -- what reading its first block asks
-  pub first_ask : (j < 16) × (length g ≡ 560) × (length (hops g j) < 34) × (0 < length (hops g j))
+  pub first_ask : (j < 16) × (length (hops g j) < 34) × (0 < length (hops g j))
   first_ask =
       let d = (way_of s.planned j single_on).door in
-      (omega (arith, few-targets s.planned.asks s.planned.chose), s.planned.long, way-short s.planned j single_on, omega (arith, ap length d.first))
+      (omega (arith, few-targets s.planned.asks s.planned.chose), way-short s.planned j single_on, omega (arith, ap length d.first))
 
   door-first : (v : ℕ) → v ≡ get_or (hops g j) 0 0 → v ≡ flip s0 (way_of s.planned j single_on).door.dim
   door-first v f = f ∙ ap (λ (l : List ℕ). get_or l 0 0) (way_of s.planned j single_on).door.first

@@ -1,5 +1,5 @@
 -- From the choices to the paths, step by step: what each call is asked (`blocks_ask`, `planned`, `stated`, `held`). Assumes nothing.
-use Rattle.std.specs.Prelude.{ℕ, ◌+◌, ◌-◌, ◌*◌, ◌^◌, ◌≤◌, ◌<◌, ◌≡◌, ◌⊎◌, ◌≢◌, List, length, get_or}
+use Rattle.std.specs.Prelude.{ℕ, ◌+◌, ◌-◌, ◌*◌, ◌^◌, ◌≤◌, ◌<◌, ◌≡◌, ◌⊎◌, ◌≢◌, List, Option, length, get_or}
 use Rattle.std.proofs.Common.{sym, subst, arith, pow_mono}
 use Rattle.std.specs.Int.Count.{ones, ones-ones}
 use Rattle.cube_math.specs.Masks.{at}
@@ -46,10 +46,9 @@ module _ {m s0 p0 k w : ℕ} {blocks slots places counts : List ℕ} (d : Draws 
         asks = d.asks;
         chose = h;
         fan = subst (λ (y : ℕ). Doors y (2 ^ (2 ^ m) - 1) s0 c.shut c.rows (at c.ends) (hops g)) (ones-ones (2 ^ m)) fan₁;
-        long = b.long;
       }
 
-module _ {m s0 p0 k w : ℕ} {blocks slots places counts : List ℕ} (d : Draws m s0 p0 k w blocks slots places counts) {c : Choice} {o : taken.Taken} {g : List ℕ}
+module _ {m s0 p0 k w : ℕ} {blocks slots places counts : List ℕ} (d : Draws m s0 p0 k w blocks slots places counts) {c : Choice} {o : Option taken.Taken} {g : List ℕ}
     (p : Planned m s0 p0 k blocks slots c g) (t : Overs m s0 p0 k blocks slots c o g) where
   pub stated : State m s0 p0 k blocks slots c o g
   stated = record { planned = p; over = t }
@@ -64,11 +63,11 @@ module _ {m s0 p0 k w : ℕ} {blocks slots places counts : List ℕ} (d : Draws 
     pub held : (free : ℕ) → free ≡ 2 ^ m - 1 → {heads : List ℕ} → Gives free p0 0 walkers leaves heads → Held m s0 p0 k blocks slots c o g leaves heads
     held free e {heads} b = record { walkers = walkers; state = stated; leave = l.each; walk = x; fan = subst (λ (y : ℕ). Gives y p0 0 walkers leaves heads) e b }
 
-pub writes : {m s0 p0 k w : ℕ} {blocks slots places counts : List ℕ} {c : Choice} {o : taken.Taken} {g leaves heads : List ℕ} → Draws m s0 p0 k w blocks slots places counts
+pub writes : {m s0 p0 k w : ℕ} {blocks slots places counts : List ℕ} {c : Choice} {o : Option taken.Taken} {g leaves heads : List ℕ} → Draws m s0 p0 k w blocks slots places counts
     → Held m s0 p0 k blocks slots c o g leaves heads → Writes m s0 p0 k w blocks slots c o g leaves heads places counts
 writes d h = record { held = h; wide = d.wide; room = d.room; room-counts = d.room-counts; filled = d.filled }
 
-pub painted : {m s0 p0 k w source : ℕ} {blocks slots places counts places₁ counts₁ : List ℕ} {c : Choice} {o : taken.Taken} {g leaves heads : List ℕ}
+pub painted : {m s0 p0 k w source : ℕ} {blocks slots places counts places₁ counts₁ : List ℕ} {c : Choice} {o : Option taken.Taken} {g leaves heads : List ℕ}
     → Held m s0 p0 k blocks slots c o g leaves heads → Drawing w source k (Pathed m s0 p0 k blocks slots c o g leaves heads) places counts places₁ counts₁ k
     → Painted m s0 p0 k w source blocks slots places counts places₁ counts₁
 painted {c = c} {o = o} {g = g} {leaves = leaves} {heads = heads} h d = record { c = c; o = o; g = g; leaves = leaves; heads = heads; held = h; drawing = d }

@@ -1,7 +1,7 @@
 -- The rest of a path after its head: a law for each kind of target (`leg_inner`, `leg_taken`, `leg_direct`, `leg_gated`, `leg_straight`).
 -- Assumes nothing.
-use Rattle.std.specs.Prelude.{ℕ, suc, ◌+◌, ◌-◌, ◌*◌, ◌^◌, ◌≤◌, ◌<◌, ◌≡◌, refl, ◌⊎◌, ◌≢◌, List, [], ◌∷◌, length, get_or, take}
-use Rattle.std.proofs.Common.{sym, ap, ◌∙◌, subst, inl, inr, ⊎_elim, suc-mul, mul-le-mul_right, mul-suc, mul_comm, add-one, arith, length-take, take_all, get_or-take, pow_pos}
+use Rattle.std.specs.Prelude.{ℕ, suc, ◌+◌, ◌-◌, ◌*◌, ◌^◌, ◌≤◌, ◌<◌, ◌≡◌, refl, ◌⊎◌, ◌≢◌, List, [], ◌∷◌, Option, length, get_or, take}
+use Rattle.std.proofs.Common.{sym, ap, ◌∙◌, subst, inl, inr, ⊎_elim, suc-mul, mul-le-mul_right, mul-suc, mul_comm, add-one, arith, length-take, get_or-take, pow_pos}
 use Rattle.cube_math.specs.Masks.{at}
 use Rattle.bits.specs.Bit.{bit, flip}
 use Rattle.bits.specs.Laws.{flip-flip, flip-lt}
@@ -17,15 +17,10 @@ use Rattle.two_math.specs.Gates.{Near}
 use Rattle.two_math.specs.Loops.{crosses_last, walk-last}
 use Rattle.two_choose.specs.declared.Choice.{Choice}
 use Rattle.two_takeover.specs.declared.Taken as taken
-use Rattle.two_write.specs.Blocks.{Goes}
 use Rattle.two_write.specs.Slots.{Below}
-use Rattle.two_general.specs.Draft.{State, way_of, way-short, single_on, leave-below}
+use Rattle.two_general.specs.Draft.{State, who_of, way_of, single_on, leave-below}
 
 -- ---- small facts
-
-take_none : (l : List ℕ) → take 0 l ≡ []
-take_none [] = refl
-take_none (x ∷ l) = refl
 
 -- the tail through a gate
 some-steps : (m q p : ℕ) → Near m p q → (tail : List ℕ) × Steps m q p tail
@@ -54,22 +49,21 @@ blocks-room m n le = omega (arith, mul-le-mul_right (suc m) le, suc-mul (2 ^ m) 
 
 -- ---- a leg
 
--- n blocks of a row from s0 by the slot `leave`, to the slot `last` of the last; and `len` slots of the target's block. Whatever relays cross the
--- blocks so make the part of target j
-pub record Leg (m s0 p0 k : ℕ) (blocks slots : List ℕ) (c : Choice) (o : taken.Taken) (g : List ℕ) (j leave row n last len : ℕ) (tail : List ℕ) : Type 0 where
-  pub goes : 0 < n → Goes m s0 g row
-  pub some : n ≤ length (hops g row)
-  pub row_in : row < 16
-  pub first : 0 < n → get_or (hops g row) 0 0 ≡ flip s0 leave
+-- a path of blocks from s0 by the slot `leave`, to the slot `last` of the last of them; and `len` slots of the target's block. Whatever relays cross
+-- the blocks so make the part of target j
+pub record Leg (m s0 p0 k : ℕ) (blocks slots : List ℕ) (c : Choice) (o : Option taken.Taken) (g : List ℕ) (j leave : ℕ) (path : List ℕ) (last len : ℕ) (tail : List ℕ) : Type 0 where
+  pub row : ℕ
+  pub goes : 0 < length path → (end : ℕ) × Walk (2 ^ (2 ^ m) - 1) s0 end path
+  pub first : 0 < length path → get_or path 0 0 ≡ flip s0 leave
   pub leave_in : leave < 2 ^ m
   pub last_in : last < 2 ^ m
-  pub stays : n ≡ 0 → leave ≡ last
+  pub stays : length path ≡ 0 → leave ≡ last
   pub few : len ≤ 8
   pub whole : len ≤ length tail
   pub below : Below m len tail
-  pub role : (b : ℕ) (body : List Relay) → Crosses m s0 leave b last (take n (hops g row)) body
-      → Role m s0 p0 k (at blocks) (at slots) c.gated c.rows o.who (at c.gates) (at c.ends) (hops g) j leave row (take n (hops g row)) (take len tail) body
-  pub room : (h : ℕ) → h ≤ m + 1 → (leave ≡ p0 → h ≡ 0) → h + (n * suc m + len) ≤ most m
+  pub role : (b : ℕ) (body : List Relay) → Crosses m s0 leave b last path body
+      → Role m s0 p0 k (at blocks) (at slots) c.gates.gated c.rows (who_of o) (at c.gates.slots) (at c.ends) (hops g) j leave row path (take len tail) body
+  pub room : (h : ℕ) → h ≤ m + 1 → (leave ≡ p0 → h ≡ 0) → h + (length path * suc m + len) ≤ most m
 
 -- the tail through a gate: its slot, and the target's if that is another
 pub record GateTail (gate slot len : ℕ) (tail : List ℕ) : Type 0 where
@@ -93,18 +87,17 @@ gate-below m {gate} {slot} {len} {tail} hg hs t = ⊎_elim
     (λ q. below_list m len tail (gate ∷ slot ∷ []) q.2 (omega (arith, gate-few t, t.long))
     (λ x o. ⊎_elim (λ e. subst (λ (y : ℕ). y < 2 ^ m) (sym e) hg) (λ r. ⊎_elim (λ e. subst (λ (y : ℕ). y < 2 ^ m) (sym e) hs) (λ z. absurd z) r) o)) t.is
 
-module _ {m s0 p0 k : ℕ} {blocks slots : List ℕ} {c : Choice} {o : taken.Taken} {g : List ℕ} (s : State m s0 p0 k blocks slots c o g) (j : ℕ) (lt : j < k) where
-  abbrev TheLeg : (leave row n last len : ℕ) (tail : List ℕ) → Type 0
+module _ {m s0 p0 k : ℕ} {blocks slots : List ℕ} {c : Choice} {o : Option taken.Taken} {g : List ℕ} (s : State m s0 p0 k blocks slots c o g) (j : ℕ) (lt : j < k) where
+  abbrev TheLeg : (leave : ℕ) (path : List ℕ) (last len : ℕ) (tail : List ℕ) → Type 0
   TheLeg = Leg m s0 p0 k blocks slots c o g j
 
   slot_in : at slots j < 2 ^ m
   slot_in = s.planned.asks.slot j
 
-  pub leg_inner : (leave : ℕ) (tail : List ℕ) → bit j c.inner ≡ 1 → leave ≡ at slots j → TheLeg leave 0 0 (at slots j) 0 tail
+  pub leg_inner : (leave : ℕ) (tail : List ℕ) → bit j c.inner ≡ 1 → leave ≡ at slots j → TheLeg leave [] (at slots j) 0 tail
   leg_inner leave tail b e = record {
+    row = 0;
     goes = λ z. absurd (omega arith);
-    some = omega arith;
-    row_in = omega arith;
     first = λ z. absurd (omega arith);
     leave_in = subst (λ (y : ℕ). y < 2 ^ m) (sym e) slot_in;
     last_in = slot_in;
@@ -115,22 +108,21 @@ module _ {m s0 p0 k : ℕ} {blocks slots : List ℕ} {c : Choice} {o : taken.Tak
     role = λ d body k. inl (record {
       here = (s.planned.chose.sort.inner_on j b).1;
       leaves = e;
-      no_route = take_none (hops g 0);
-      no_body = (subst (λ (l : List ℕ). Crosses m s0 leave d (at slots j) l body) (take_none (hops g 0)) k).2;
-      no_tail = take_none tail;
+      no_route = refl;
+      no_body = k.2;
+      no_tail = refl;
     });
     room = λ h le z. omega (arith, pow_pos m);
   }
 
-  pub leg_straight : (leave len : ℕ) (tail : List ℕ) → bit j c.straight ≡ 1 → leave ≡ at c.gates j → GateTail (at c.gates j) (at slots j) len tail
-      → TheLeg leave 0 0 (at c.gates j) len tail
+  pub leg_straight : (leave len : ℕ) (tail : List ℕ) → bit j c.straight ≡ 1 → leave ≡ at c.gates.slots j → GateTail (at c.gates.slots j) (at slots j) len tail
+      → TheLeg leave [] (at c.gates.slots j) len tail
   leg_straight leave len tail b e t =
       let x = s.planned.chose.keeps.straight_on j b in
       let near = (s.planned.chose.gate j lt x.0).near in
       record {
+        row = 0;
         goes = λ z. absurd (omega arith);
-        some = omega arith;
-        row_in = omega arith;
         first = λ z. absurd (omega arith);
         leave_in = subst (λ (y : ℕ). y < 2 ^ m) (sym e) (s.planned.chose.below j);
         last_in = s.planned.chose.below j;
@@ -143,8 +135,8 @@ module _ {m s0 p0 k : ℕ} {blocks slots : List ℕ} {c : Choice} {o : taken.Tak
           inr (inl (record {
             at-gate = x.1;
             leaves = e;
-            no_route = take_none (hops g 0);
-            no_body = (subst (λ (l : List ℕ). Crosses m s0 leave d (at c.gates j) l body) (take_none (hops g 0)) k).2;
+            no_route = refl;
+            no_body = k.2;
             steps = gate-steps near t;
           })),
         ));
@@ -164,33 +156,22 @@ module _ {m s0 p0 k : ℕ} {blocks slots : List ℕ} {c : Choice} {o : taken.Tak
     way : Way (2 ^ m) (2 ^ (2 ^ m) - 1) s0 c.shut (at c.ends j) (hops g j)
     way = way_of s.planned j on
 
-    goes_on : Goes m s0 g j
-    goes_on = record { end = at c.ends j; walk = way.walk; few = way-short s.planned j on }
-
-    few-j : j < 16
-    few-j = omega (arith, s.planned.asks.ask.few, s.planned.asks.high)
-
-    all : take (length (hops g j)) (hops g j) ≡ hops g j
-    all = take_all (length (hops g j)) (hops g j) (omega arith)
-
     some-hops : length (hops g j) ≢ 0
     some-hops e = let z : length (hops g j) ≡ suc (length rest) = ap length starts in omega arith
 
     -- it ends in the end of its row
-    ends_there : (d q : ℕ) (body : List Relay) → Crosses m s0 leave d q (take (length (hops g j)) (hops g j)) body → Crosses m s0 leave (at c.ends j) q (hops g j) body
+    ends_there : (d q : ℕ) (body : List Relay) → Crosses m s0 leave d q (hops g j) body → Crosses m s0 leave (at c.ends j) q (hops g j) body
     ends_there d q body k =
-        let k₁ : Crosses m s0 leave d q (hops g j) body = subst (λ (l : List ℕ). Crosses m s0 leave d q l body) all k in
-        let e : d ≡ at c.ends j = sym (crosses_last m s0 leave d q (hops g j) body k₁) ∙ walk-last (2 ^ (2 ^ m) - 1) s0 (at c.ends j) (hops g j) way.walk in
-        subst (λ (y : ℕ). Crosses m s0 leave y q (hops g j) body) e k₁
+        let e : d ≡ at c.ends j = sym (crosses_last m s0 leave d q (hops g j) body k) ∙ walk-last (2 ^ (2 ^ m) - 1) s0 (at c.ends j) (hops g j) way.walk in
+        subst (λ (y : ℕ). Crosses m s0 leave y q (hops g j) body) e k
 
-    pub leg_direct : (tail : List ℕ) → bit j c.gated ≡ 0 → j ≢ o.who → TheLeg leave j (length (hops g j)) (at slots j) 0 tail
+    pub leg_direct : (tail : List ℕ) → bit j c.gates.gated ≡ 0 → j ≢ who_of o → TheLeg leave (hops g j) (at slots j) 0 tail
     leg_direct tail b ne =
         let sort = s.planned.chose.sort in
         let end : at c.ends j ≡ at blocks j = s.planned.chose.end.end_direct j single b in
         record {
-          goes = λ z. goes_on;
-          some = omega arith;
-          row_in = few-j;
+          row = j;
+          goes = λ z. (at c.ends j, way.walk);
           first = λ z. ap (λ (l : List ℕ). get_or l 0 0) starts;
           leave_in = leave_in;
           last_in = slot_in;
@@ -203,22 +184,20 @@ module _ {m s0 p0 k : ℕ} {blocks slots : List ℕ} {c : Choice} {o : taken.Tak
             alone = (sort.gated_off j lt (sort.inner_off j lt outer) b).0;
             member = on;
             end = end;
-            follows = all;
-            crosses = subst (λ (l : List ℕ). Crosses m s0 leave (at blocks j) (at slots j) l body) (sym all)
-                (subst (λ (y : ℕ). Crosses m s0 leave y (at slots j) (hops g j) body) end (ends_there d (at slots j) body k));
-            no_tail = take_none tail;
+            follows = refl;
+            crosses = subst (λ (y : ℕ). Crosses m s0 leave y (at slots j) (hops g j) body) end (ends_there d (at slots j) body k);
+            no_tail = refl;
           }));
           room = λ h le z. omega (arith, blocks-room m (length (hops g j)) way.short);
         }
 
-    pub leg_gated : (len : ℕ) (tail : List ℕ) → bit j c.gated ≡ 1 → GateTail (at c.gates j) (at slots j) len tail
-        → TheLeg leave j (length (hops g j)) (at c.gates j) len tail
+    pub leg_gated : (len : ℕ) (tail : List ℕ) → bit j c.gates.gated ≡ 1 → GateTail (at c.gates.slots j) (at slots j) len tail
+        → TheLeg leave (hops g j) (at c.gates.slots j) len tail
     leg_gated len tail b t =
-        let end : at c.ends j ≡ flip (at blocks j) (at c.gates j) = s.planned.chose.end.end-gate j single b in
+        let end : at c.ends j ≡ flip (at blocks j) (at c.gates.slots j) = s.planned.chose.end.end-gate j single b in
         record {
-          goes = λ z. goes_on;
-          some = omega arith;
-          row_in = few-j;
+          row = j;
+          goes = λ z. (at c.ends j, way.walk);
           first = λ z. ap (λ (l : List ℕ). get_or l 0 0) starts;
           leave_in = leave_in;
           last_in = s.planned.chose.below j;
@@ -231,17 +210,10 @@ module _ {m s0 p0 k : ℕ} {blocks slots : List ℕ} {c : Choice} {o : taken.Tak
             inl (record {
               member = on;
               end = end;
-              follows = all;
-              crosses = subst (λ (l : List ℕ). Crosses m s0 leave (flip (at blocks j) (at c.gates j)) (at c.gates j) l body) (sym all)
-                  (subst (λ (y : ℕ). Crosses m s0 leave y (at c.gates j) (hops g j) body) end (ends_there d (at c.gates j) body k));
+              follows = refl;
+              crosses = subst (λ (y : ℕ). Crosses m s0 leave y (at c.gates.slots j) (hops g j) body) end (ends_there d (at c.gates.slots j) body k);
               steps = gate-steps (s.planned.chose.gate j lt b).near t;
             }),
           ));
           room = λ h le z. omega (arith, blocks-room m (length (hops g j)) way.short, gate-few t);
         }
-
--- so many blocks, by another name
-pub leg_long : {m s0 p0 k : ℕ} {blocks slots : List ℕ} {c : Choice} {o : taken.Taken} {g : List ℕ} {j leave row last len : ℕ} {tail : List ℕ} (n : ℕ) → n ≡ length (hops g row)
-    → Leg m s0 p0 k blocks slots c o g j leave row (length (hops g row)) last len tail → Leg m s0 p0 k blocks slots c o g j leave row n last len tail
-leg_long {m} {s0} {p0} {k} {blocks} {slots} {c} {o} {g} {j} {leave} {row} {last} {len} {tail} n e l =
-    subst (λ (y : ℕ). Leg m s0 p0 k blocks slots c o g j leave row y last len tail) (sym e) l

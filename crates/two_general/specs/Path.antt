@@ -1,14 +1,14 @@
 -- One path written: its source, its head in the source's block, the blocks of its leg, and its tail (`Wrote`). Assumes nothing.
-use Rattle.std.specs.Prelude.{ℕ, suc, ◌+◌, ◌-◌, ◌*◌, ◌^◌, ◌≤◌, ◌<◌, ◌≡◌, refl, Bool, true, false, List, [], ◌∷◌, ◌++◌, length, get_or, take, set}
-use Rattle.std.proofs.Common.{sym, ap, ◌∙◌, subst, arith, length-take, length-append}
+use Rattle.std.specs.Prelude.{ℕ, suc, ◌+◌, ◌-◌, ◌*◌, ◌^◌, ◌≤◌, ◌<◌, ◌≡◌, Bool, true, false, List, [], ◌∷◌, ◌++◌, length, get_or, take, set}
+use Rattle.std.proofs.Common.{sym, ap, ◌∙◌, arith, length-take, get_or-take, length-append}
 use Rattle.std.proofs.lemmas.List.Edits.{sets}
 use Rattle.bits.specs.Bit.{flip}
-use Rattle.two_write.specs.Row.{hops}
 use Rattle.two_math.specs.Relays.{Relay, inside, length-inside}
 use Rattle.two_math.specs.Through.{Crosses, crosses_short}
 use Rattle.two_math.specs.Numbers.{numbers, numbers-append, length-numbers}
 use Rattle.scan.specs.Runs.{sets_append}
-use Rattle.two_write.specs.Blocks.{Goes, Ways, Crossed}
+use Rattle.cube_math.specs.Doors.{Walk}
+use Rattle.two_write.specs.Blocks.{Ways, Crossed}
 use Rattle.two_write.specs.Slots.{Below, Slotted}
 
 -- the list, if it walks
@@ -16,30 +16,21 @@ unfoldable pub head_if : Bool → List ℕ → List ℕ
 head_if true l = l
 head_if false l = []
 
--- what the head may be asked
-pub record HeadAsk (m s0 : ℕ) (heads : List ℕ) (j : ℕ) (walks : Bool) : Type 0 where
+-- what may be asked: a head of slots of the source's block, a path of blocks from there, and a tail of slots of block b
+pub record PathAsk (m s0 b : ℕ) (head : List ℕ) (leave : ℕ) (path : List ℕ) (last len : ℕ) (tail : List ℕ) (at size : ℕ) : Type 0 where
   pub order : m ≤ 5
   pub home : s0 < 2 ^ (2 ^ m)
-  pub row : j < 16
-  pub long : length heads ≡ 560
-  pub few : walks ≡ true → length (hops heads j) < 34
-  pub below : walks ≡ true → Below m (length (hops heads j)) (hops heads j)
-
-pub record PathAsk (m s0 b : ℕ) (heads : List ℕ) (j : ℕ) (walks : Bool) (g : List ℕ) (leave row n last len : ℕ) (tail : List ℕ) (at size : ℕ) : Type 0 where
-  pub head : HeadAsk m s0 heads j walks
+  pub head_in : Below m (length head) head
   pub block : b < 2 ^ (2 ^ m)
-  pub long : length g ≡ 560
-  pub goes : 0 < n → Goes m s0 g row
-  pub some : n ≤ length (hops g row)
-  pub row_in : row < 16
-  pub first : 0 < n → get_or (hops g row) 0 0 ≡ flip s0 leave
+  pub goes : 0 < length path → (end : ℕ) × Walk (2 ^ (2 ^ m) - 1) s0 end path
+  pub first : 0 < length path → get_or path 0 0 ≡ flip s0 leave
   pub leave_in : leave < 2 ^ m
   pub last_in : last < 2 ^ m
-  pub stays : n ≡ 0 → leave ≡ last
+  pub stays : length path ≡ 0 → leave ≡ last
   pub few : len ≤ 8
   pub whole : len ≤ length tail
   pub below : Below m len tail
-  pub room : at + suc (length (head_if walks (hops heads j)) + (n * suc m + len)) ≤ size
+  pub room : at + suc (length head + (length path * suc m + len)) ≤ size
 
 -- the path stands from `at` on, source first, and has r hops; `body` crosses its blocks
 pub record Wrote (m s0 b source : ℕ) (head : List ℕ) (route : List ℕ) (leave last : ℕ) (tail : List ℕ) (at : ℕ) (was now : List ℕ) (r : ℕ) : Type 0 where
@@ -49,19 +40,12 @@ pub record Wrote (m s0 b source : ℕ) (head : List ℕ) (route : List ℕ) (lea
   pub wrote : now ≡ sets was at (source ∷ numbers m (inside s0 head ++ (body ++ inside b tail)))
   pub count : r ≡ length (numbers m (inside s0 head ++ (body ++ inside b tail)))
 
-module _ {m s0 b : ℕ} {heads : List ℕ} {j : ℕ} {walks : Bool} {g : List ℕ} {leave row n last len : ℕ} {tail : List ℕ} {at size : ℕ}
-    (a : PathAsk m s0 b heads j walks g leave row n last len tail at size) where
-  abbrev head : List ℕ
-  head = head_if walks (hops heads j)
-
-  pub ways : (p size₁ : ℕ) → p ≡ at + 1 + length head → size₁ ≡ size → Ways m s0 g row n leave last p size₁
+module _ {m s0 b : ℕ} {head : List ℕ} {leave : ℕ} {path : List ℕ} {last len : ℕ} {tail : List ℕ} {at size : ℕ} (a : PathAsk m s0 b head leave path last len tail at size) where
+  pub ways : (p size₁ : ℕ) → p ≡ at + 1 + length head → size₁ ≡ size → Ways m s0 path leave last p size₁
   ways p size₁ ep es = record {
-    order = a.head.order;
-    home = a.head.home;
+    order = a.order;
+    home = a.home;
     goes = a.goes;
-    some = a.some;
-    row_in = a.row_in;
-    long = a.long;
     first = a.first;
     leave_in = a.leave_in;
     last_in = a.last_in;
@@ -69,18 +53,17 @@ module _ {m s0 b : ℕ} {heads : List ℕ} {j : ℕ} {walks : Bool} {g : List �
     room = omega (arith, a.room);
   }
 
-  module _ (source : ℕ) (was : List ℕ) {l₁ l₂ : List ℕ} {p q : ℕ} (h : Slotted m s0 head (at + 1) (set was at source) l₁ p)
-      (x : Crossed m s0 leave last (take n (hops g row)) p l₁ l₂ q) where
-    route-size : length (take n (hops g row)) ≡ n
-    route-size = length-take n (hops g row) ∙ omega (arith, a.some)
+  pub tail-below : Below m (length (take len tail)) (take len tail)
+  tail-below i h = let lt : i < len = omega (arith, length-take len tail) in rw get_or-take (a.below i lt)
 
+  module _ (source : ℕ) (was : List ℕ) {l₁ l₂ : List ℕ} {p q : ℕ} (h : Slotted m s0 head (at + 1) (set was at source) l₁ p) (x : Crossed m s0 leave last path p l₁ l₂ q) where
     tail-size : length (take len tail) ≡ len
     tail-size = length-take len tail ∙ omega (arith, a.few, a.whole)
 
     -- where the tail begins there is room for it
     pub tail-room : q + len ≤ size
     tail-room =
-        omega (arith, x.next, h.next, crosses_short m s0 leave x.last last (take n (hops g row)) x.body x.crosses, ap (λ (y : ℕ). y * suc m) route-size, a.room)
+        omega (arith, x.next, h.next, crosses_short m s0 leave x.last last path x.body x.crosses, a.room)
 
     abbrev A : List ℕ
     A = numbers m (inside s0 head)
@@ -97,7 +80,7 @@ module _ {m s0 b : ℕ} {heads : List ℕ} {j : ℕ} {walks : Bool} {g : List �
     sizes : (length A ≡ length head) × (length B ≡ length x.body) × (length C ≡ length (take len tail))
     sizes = (length-numbers m (inside s0 head) ∙ length-inside s0 head, length-numbers m x.body, length-numbers m (inside b (take len tail)) ∙ length-inside b (take len tail))
 
-    pub wrote : {l₃ : List ℕ} {r : ℕ} (hops₁ : ℕ) → Slotted m b (take len tail) q l₂ l₃ r → hops₁ ≡ r - at - 1 → Wrote m s0 b source head (take n (hops g row)) leave last (take len tail) at was l₃ hops₁
+    pub wrote : {l₃ : List ℕ} {r : ℕ} (hops₁ : ℕ) → Slotted m b (take len tail) q l₂ l₃ r → hops₁ ≡ r - at - 1 → Wrote m s0 b source head path leave last (take len tail) at was l₃ hops₁
     wrote {l₃} {r} hops₁ t e = record {
       end = x.last;
       body = x.body;
@@ -127,9 +110,3 @@ head-on l e = ap (λ (w : Bool). head_if w l) e
 pub head_off : {walks : Bool} (l : List ℕ) → walks ≡ false → head_if walks l ≡ []
 unfolding head_if
 head_off l e = ap (λ (w : Bool). head_if w l) e
-
-pub slotted_on : {m b : ℕ} {l : List ℕ} {at : ℕ} {was now : List ℕ} {r : ℕ} (walks : Bool) → walks ≡ true → Slotted m b l at was now r → Slotted m b (head_if walks l) at was now r
-slotted_on {m} {b} {l} {at} {was} {now} {r} walks e s = subst (λ (y : List ℕ). Slotted m b y at was now r) (sym (head-on l e)) s
-
-pub slotted_off : (m b : ℕ) (l : List ℕ) (at : ℕ) (was : List ℕ) (walks : Bool) → walks ≡ false → Slotted m b (head_if walks l) at was was at
-slotted_off m b l at was walks e = subst (λ (y : List ℕ). Slotted m b y at was was at) (sym (head_off l e)) (record { wrote = refl; next = omega arith })

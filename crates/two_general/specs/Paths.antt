@@ -1,5 +1,5 @@
 -- All paths written: what must be chosen before (`Held`), what each path is (`Pathed`), and one of them in its places (`Put`). Assumes nothing.
-use Rattle.std.specs.Prelude.{ℕ, suc, ◌+◌, ◌-◌, ◌*◌, ◌^◌, ◌≤◌, ◌<◌, ◌≡◌, refl, ◌≢◌, Bool, true, false, not, List, ◌∷◌, ◌++◌, length, get_or, set, take, eqb}
+use Rattle.std.specs.Prelude.{ℕ, suc, ◌+◌, ◌-◌, ◌*◌, ◌^◌, ◌≤◌, ◌<◌, ◌≡◌, refl, ◌≢◌, Bool, true, false, not, List, ◌∷◌, ◌++◌, Option, length, get_or, set, take, eqb}
 use Rattle.std.proofs.Common.{sym, ap, ◌∙◌, subst, inr, ⊎_elim, arith, length-take, length-append, pow_mono, eq-eqb}
 use Rattle.std.proofs.lemmas.List.Edits.{sets}
 use Rattle.std.specs.Int.Count.{ones, ones-ones}
@@ -19,11 +19,12 @@ use Rattle.two_math.specs.Plan.{Role}
 use Rattle.two_choose.specs.declared.Choice.{Choice}
 use Rattle.two_takeover.specs.declared.Taken as taken
 use Rattle.two_write.specs.Row.{hops}
+use Rattle.two_write.specs.Slots.{Below}
 use Rattle.two_write.specs.Rows.{Drawing, drawing_none, drawing_more, row_room}
 use Rattle.two_rows.specs.Rows.{Gives}
-use Rattle.two_general.specs.Draft.{State, Leaves, Somewhere}
+use Rattle.two_general.specs.Draft.{State, who_of, Leaves, Inside}
 use Rattle.two_general.specs.Legs.{Leg, slots-below}
-use Rattle.two_general.specs.Path.{head_if, head-on, head_off, HeadAsk, PathAsk, Wrote}
+use Rattle.two_general.specs.Path.{head_if, head-on, head_off, PathAsk, Wrote}
 
 -- a path walks in the source's block unless it leaves by the source's slot
 abbrev pub walks : ℕ → List ℕ → ℕ → Bool
@@ -32,7 +33,7 @@ walks p0 leaves j = not (eqb (at leaves j) p0)
 abbrev pub head_of : ℕ → List ℕ → List ℕ → ℕ → List ℕ
 head_of p0 leaves heads j = head_if (walks p0 leaves j) (hops heads j)
 
-module _ (m s0 p0 k : ℕ) (blocks slots : List ℕ) (c : Choice) (o : taken.Taken) (g leaves heads : List ℕ) where
+module _ (m s0 p0 k : ℕ) (blocks slots : List ℕ) (c : Choice) (o : Option taken.Taken) (g leaves heads : List ℕ) where
   -- all that is chosen before a path is written
   pub record Held : Type 0 where
     pub walkers : ℕ
@@ -47,7 +48,7 @@ module _ (m s0 p0 k : ℕ) (blocks slots : List ℕ) (c : Choice) (o : taken.Tak
     pub route : List ℕ
     pub tail : List ℕ
     pub body : List Relay
-    pub role : Role m s0 p0 k (at blocks) (at slots) c.gated c.rows o.who (at c.gates) (at c.ends) (hops g) j (at leaves j) row route tail body
+    pub role : Role m s0 p0 k (at blocks) (at slots) c.gates.gated c.rows (who_of o) (at c.gates.slots) (at c.ends) (hops g) j (at leaves j) row route tail body
     pub is : l ≡ numbers m (inside s0 (head_of p0 leaves heads j) ++ (body ++ inside (at blocks j) tail))
 
   -- it stands from the place `at₁` on, after its source
@@ -59,22 +60,22 @@ module _ (m s0 p0 k : ℕ) (blocks slots : List ℕ) (c : Choice) (o : taken.Tak
     pub count : r ≡ length path
 
 -- j is a target of it
-pub record Inner (m s0 p0 : ℕ) (blocks slots : List ℕ) (c : Choice) (o : taken.Taken) (g leaves heads : List ℕ) (j : ℕ) : Type 0 where
+pub record Inner (m s0 p0 : ℕ) (blocks slots : List ℕ) (c : Choice) (o : Option taken.Taken) (g leaves heads : List ℕ) (j : ℕ) : Type 0 where
   pub k : ℕ
   pub lt : j < k
   pub held : Held m s0 p0 k blocks slots c o g leaves heads
 
 -- ---- one path
 
-module _ {m s0 p0 k : ℕ} {blocks slots : List ℕ} {c : Choice} {o : taken.Taken} {g leaves heads : List ℕ} (h : Held m s0 p0 k blocks slots c o g leaves heads) (j : ℕ) (lt : j < k) where
+module _ {m s0 p0 k : ℕ} {blocks slots : List ℕ} {c : Choice} {o : Option taken.Taken} {g leaves heads : List ℕ} (h : Held m s0 p0 k blocks slots c o g leaves heads) (j : ℕ) (lt : j < k) where
   pub held_small : (j < 6) × (m ≤ 5) × (2 ^ m ≤ 32)
   held_small =
       let a = h.state.planned.asks in
       let p : 2 ^ m ≤ 32 = pow_mono a.high in
       (omega (arith, a.ask.few, a.high), a.high, p)
 
-  pub held_somewhere : Somewhere slots c o g j
-  held_somewhere = record { s0 = s0; p0 = p0; is = record { m = m; k = k; blocks = blocks; lt = lt; state = h.state } }
+  pub held_inside : (s0 p0 : ℕ) × Inside s0 p0 slots c o g j
+  held_inside = (s0, p0, record { m = m; k = k; blocks = blocks; lt = lt; state = h.state })
 
   walks-way : walks p0 leaves j ≡ true → Way (ones (2 ^ m - 1)) (2 ^ m - 1) p0 0 (at leaves j) (hops heads j)
   walks-way e = h.fan.fan.each j (⊎_elim (λ z. absurd (true-false e (ap not (eq-eqb (at leaves j) p0 (h.walk.fails j (bit-full k j lt) z))))) (λ z. z) (bit-cases j h.walkers))
@@ -89,28 +90,28 @@ module _ {m s0 p0 k : ℕ} {blocks slots : List ℕ} {c : Choice} {o : taken.Tak
   head-none : at leaves j ≡ p0 → length (head_of p0 leaves heads j) ≡ 0
   head-none e = ap length (head_off (hops heads j) (ap not (eq-eqb (at leaves j) p0 e)))
 
-  head_ask : HeadAsk m s0 heads j (walks p0 leaves j)
-  head_ask = record {
-    order = held_small.1;
-    home = h.state.planned.asks.ask.home-block;
-    row = omega (arith, held_small.0);
-    long = h.fan.long;
-    few = λ e. omega (arith, (walks-way e).short, ones-ones m, held_small.1);
-    below = λ e i l. slots-below m p0 (at leaves j) (hops heads j) h.state.planned.asks.ask.home-slot (walks-way e).walk (get_or (hops heads j) i 0) (inr (in_at (hops heads j) 0 i l));
-  }
+  -- reading the head's row
+  pub head_row : (j < 16) × (walks p0 leaves j ≡ true → length (hops heads j) < 34)
+  head_row = (omega (arith, held_small.0), λ e. omega (arith, (walks-way e).short, ones-ones m, held_small.1))
 
-  module _ {row n last len : ℕ} {tail : List ℕ} (l : Leg m s0 p0 k blocks slots c o g j (at leaves j) row n last len tail) where
-    fits : length (head_of p0 leaves heads j) + (n * suc m + len) ≤ most m
+  head_below : Below m (length (head_of p0 leaves heads j)) (head_of p0 leaves heads j)
+  head_below = by (walks p0 leaves j) refl
+    where
+      by : (b : Bool) → walks p0 leaves j ≡ b → Below m (length (head_of p0 leaves heads j)) (head_of p0 leaves heads j)
+      by true e = rw (head-on (hops heads j) e) (λ i l. slots-below m p0 (at leaves j) (hops heads j) h.state.planned.asks.ask.home-slot (walks-way e).walk (get_or (hops heads j) i 0) (inr (in_at (hops heads j) 0 i l)))
+      by false e = rw (head_off (hops heads j) e) (λ i l. absurd (omega arith))
+
+  module _ {path : List ℕ} {last len : ℕ} {tail : List ℕ} (l : Leg m s0 p0 k blocks slots c o g j (at leaves j) path last len tail) where
+    fits : length (head_of p0 leaves heads j) + (length path * suc m + len) ≤ most m
     fits = l.room (length (head_of p0 leaves heads j)) head-short head-none
 
-    pub path_ask : (at₁ size : ℕ) → at₁ + suc (most m) ≤ size → PathAsk m s0 (at blocks j) heads j (walks p0 leaves j) g (at leaves j) row n last len tail at₁ size
+    pub path_ask : (at₁ size : ℕ) → at₁ + suc (most m) ≤ size → PathAsk m s0 (at blocks j) (head_of p0 leaves heads j) (at leaves j) path last len tail at₁ size
     path_ask at₁ size room = record {
-      head = head_ask;
+      order = held_small.1;
+      home = h.state.planned.asks.ask.home-block;
+      head_in = head_below;
       block = h.state.planned.asks.ask.blocks j lt;
-      long = h.state.planned.long;
       goes = l.goes;
-      some = l.some;
-      row_in = l.row_in;
       first = l.first;
       leave_in = l.leave_in;
       last_in = l.last_in;
@@ -124,33 +125,30 @@ module _ {m s0 p0 k : ℕ} {blocks slots : List ℕ} {c : Choice} {o : taken.Tak
     abbrev all : List Relay → List Relay
     all body = inside s0 (head_of p0 leaves heads j) ++ (body ++ inside (at blocks j) (take len tail))
 
-    pub put : (source at₁ : ℕ) {was now : List ℕ} {r : ℕ} → Wrote m s0 (at blocks j) source (head_of p0 leaves heads j) (take n (hops g row)) (at leaves j) last (take len tail) at₁ was now r
+    pub put : (source at₁ : ℕ) {was now : List ℕ} {r : ℕ} → Wrote m s0 (at blocks j) source (head_of p0 leaves heads j) path (at leaves j) last (take len tail) at₁ was now r
         → Put m s0 p0 k blocks slots c o g leaves heads source j at₁ was now r
     put source at₁ w =
         let size : length (numbers m (all w.body)) ≡ length (head_of p0 leaves heads j) + (length w.body + length (take len tail)) =
         length-numbers m (all w.body) ∙ length-append (inside s0 (head_of p0 leaves heads j)) (w.body ++ inside (at blocks j) (take len tail)) ∙ omega (arith, length-inside s0 (head_of p0 leaves heads j), length-append w.body (inside (at blocks j) (take len tail)), length-inside (at blocks j) (take len tail)) in
         record {
           path = numbers m (all w.body);
-          pathed = record { row = row; route = take n (hops g row); tail = take len tail; body = w.body; role = l.role w.end w.body w.crosses; is = refl };
-          short = omega (arith, size, fits, crosses_short m s0 (at leaves j) w.end last (take n (hops g row)) w.body w.crosses, ap (λ (y : ℕ). y * suc m) route-size, length-take len tail);
+          pathed = record { row = l.row; route = path; tail = take len tail; body = w.body; role = l.role w.end w.body w.crosses; is = refl };
+          short = omega (arith, size, fits, crosses_short m s0 (at leaves j) w.end last path w.body w.crosses, length-take len tail);
           wrote = w.wrote;
           count = w.count;
         }
-      where
-        route-size : length (take n (hops g row)) ≡ n
-        route-size = length-take n (hops g row) ∙ omega (arith, l.some)
 
 -- ---- all paths
 
 -- what the loop over the paths is asked
-pub record Writes (m s0 p0 k w : ℕ) (blocks slots : List ℕ) (c : Choice) (o : taken.Taken) (g leaves heads places counts : List ℕ) : Type 0 where
+pub record Writes (m s0 p0 k w : ℕ) (blocks slots : List ℕ) (c : Choice) (o : Option taken.Taken) (g leaves heads places counts : List ℕ) : Type 0 where
   pub held : Held m s0 p0 k blocks slots c o g leaves heads
   pub wide : w ≡ most m + 1
   pub room : k * w ≤ length places
   pub room-counts : k ≤ length counts
   pub filled : (x : ℕ) → x < k * w → get_or places x 0 ≡ fan.filler
 
-module _ {m s0 p0 k w : ℕ} {blocks slots : List ℕ} {c : Choice} {o : taken.Taken} {g leaves heads places₀ counts₀ : List ℕ} (a : Writes m s0 p0 k w blocks slots c o g leaves heads places₀ counts₀) where
+module _ {m s0 p0 k w : ℕ} {blocks slots : List ℕ} {c : Choice} {o : Option taken.Taken} {g leaves heads places₀ counts₀ : List ℕ} (a : Writes m s0 p0 k w blocks slots c o g leaves heads places₀ counts₀) where
   abbrev Drawn₁ : (source : ℕ) (places counts : List ℕ) (j : ℕ) → Type 0
   Drawn₁ source places counts j = Drawing w source k (Pathed m s0 p0 k blocks slots c o g leaves heads) places₀ counts₀ places counts j
 

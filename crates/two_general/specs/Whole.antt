@@ -1,5 +1,5 @@
 -- The whole plan: the paths that are written are a fan over numbers (`painted_fan`). Assumes nothing.
-use Rattle.std.specs.Prelude.{ℕ, ◌+◌, ◌-◌, ◌^◌, ◌≤◌, ◌<◌, ◌≡◌, refl, ◌⊎◌, not, List, [], ◌++◌, length, get_or}
+use Rattle.std.specs.Prelude.{ℕ, ◌+◌, ◌-◌, ◌^◌, ◌≤◌, ◌<◌, ◌≡◌, refl, ◌⊎◌, not, List, [], ◌++◌, Option, length, get_or}
 use Rattle.std.proofs.Common.{sym, ap, ◌∙◌, subst, inl, inr, ⊎_elim, arith, eq-eqb, ne_eqb}
 use Rattle.std.specs.Int.Count.{ones-ones}
 use Rattle.cube_math.specs.Masks.{at}
@@ -21,6 +21,7 @@ use Rattle.two_choose.specs.Chosen.{Asks}
 use Rattle.two_takeover.specs.declared.Taken as taken
 use Rattle.two_write.specs.Row.{hops}
 use Rattle.two_write.specs.Rows.{Drawing, Ready, Drawn, drawn, drawn-has, drawing_drawn}
+use Rattle.two_general.specs.Draft.{who_of}
 use Rattle.two_general.specs.Filled.{Filled}
 use Rattle.two_general.specs.Path.{head-on, head_off}
 use Rattle.two_general.specs.Paths.{head_of, Held, Pathed}
@@ -74,23 +75,23 @@ module _ {m s : ℕ} {targets blocks slots : List ℕ} (low : 2 ≤ m) (high : m
 -- what was chosen, and the paths that were written by it
 pub record Painted (m s0 p0 k w source : ℕ) (blocks slots places counts places₁ counts₁ : List ℕ) : Type 0 where
   pub c : Choice
-  pub o : taken.Taken
+  pub o : Option taken.Taken
   pub g : List ℕ
   pub leaves : List ℕ
   pub heads : List ℕ
   pub held : Held m s0 p0 k blocks slots c o g leaves heads
   pub drawing : Drawing w source k (Pathed m s0 p0 k blocks slots c o g leaves heads) places counts places₁ counts₁ k
 
-module _ {m s0 p0 k : ℕ} {blocks slots : List ℕ} {c : Choice} {o : taken.Taken} {g leaves heads : List ℕ} (h : Held m s0 p0 k blocks slots c o g leaves heads)
+module _ {m s0 p0 k : ℕ} {blocks slots : List ℕ} {c : Choice} {o : Option taken.Taken} {g leaves heads : List ℕ} (h : Held m s0 p0 k blocks slots c o g leaves heads)
     (path : ℕ → List ℕ) (has : (j : ℕ) → j < k → Pathed m s0 p0 k blocks slots c o g leaves heads j (path j)) where
   piece-or : (j : ℕ) → (j < k) ⊎ (k ≤ j) → (row : ℕ) × (route tail : List ℕ) × (body : List Relay)
-      × (j < k → Role m s0 p0 k (at blocks) (at slots) c.gated c.rows o.who (at c.gates) (at c.ends) (hops g) j (at leaves j) row route tail body
+      × (j < k → Role m s0 p0 k (at blocks) (at slots) c.gates.gated c.rows (who_of o) (at c.gates.slots) (at c.ends) (hops g) j (at leaves j) row route tail body
       × (path j ≡ numbers m (inside s0 (head_of p0 leaves heads j) ++ (body ++ inside (at blocks j) tail))))
   piece-or j (inl l) = let x = has j l in (x.row, x.route, x.tail, x.body, λ z. (x.role, x.is))
   piece-or j (inr l) = (0, [], [], [], λ z. absurd (omega arith))
 
   abbrev piece : (j : ℕ) → (row : ℕ) × (route tail : List ℕ) × (body : List Relay)
-      × (j < k → Role m s0 p0 k (at blocks) (at slots) c.gated c.rows o.who (at c.gates) (at c.ends) (hops g) j (at leaves j) row route tail body
+      × (j < k → Role m s0 p0 k (at blocks) (at slots) c.gates.gated c.rows (who_of o) (at c.gates.slots) (at c.ends) (hops g) j (at leaves j) row route tail body
       × (path j ≡ numbers m (inside s0 (head_of p0 leaves heads j) ++ (body ++ inside (at blocks j) tail))))
   piece j = piece-or j (lt-or-le j k)
 
@@ -100,16 +101,16 @@ module _ {m s0 p0 k : ℕ} {blocks slots : List ℕ} {c : Choice} {o : taken.Tak
   head-of : (j : ℕ) → bit j h.walkers ≡ 1 → head_of p0 leaves heads j ≡ hops heads j
   head-of j o = head-on (hops heads j) (ap not (ne_eqb (at leaves j) p0 (h.walk.holds j o)))
 
-  all_draft : Draft m s0 p0 k (at blocks) (at slots) c.gated c.rows o.who (at c.gates) (at c.ends) (hops g) c.shut (at leaves)
+  all_draft : Draft m s0 p0 k (at blocks) (at slots) c.gates.gated c.rows (who_of o) (at c.gates.slots) (at c.ends) (hops g) c.shut (at leaves)
       (λ j. (piece j).0) (λ j. (piece j).1) (λ j. (piece j).2) (λ j. (piece j).3)
   all_draft =
       let p = h.state.planned in
-      drafted p.asks.ask p.chose.sort p.chose.gate p.chose.keeps p.chose.end o.who (hops g) p.chose.shuts p.fan (λ j l. ((piece j).4 l).0)
+      drafted p.asks.ask p.chose.sort p.chose.gate p.chose.keeps p.chose.end (who_of o) (hops g) p.chose.shuts p.fan (λ j l. ((piece j).4 l).0)
 
   paths-fan : TwoFan m s0 p0 k (at blocks) (at slots) relays
   paths-fan =
       let p = h.state.planned in
-      finished p.asks.ask p.chose.sort p.chose.gate p.chose.keeps p.chose.end o.who (hops g) p.chose.shuts h.walkers (head_of p0 leaves heads) relays all_draft
+      finished p.asks.ask p.chose.sort p.chose.gate p.chose.keeps p.chose.end (who_of o) (hops g) p.chose.shuts h.walkers (head_of p0 leaves heads) relays all_draft
       (doors_hops (head_of p0 leaves heads) head-of (subst (λ (y : ℕ). Doors y (2 ^ m - 1) p0 0 h.walkers (at leaves) (hops heads)) (ones-ones m) h.fan.fan))
       (λ j l. ⊎_elim (λ z. let e = h.walk.fails j (bit-full k j l) z in inr (e, head_off (hops heads j) (ap not (eq-eqb (at leaves j) p0 e)))) (λ z. inl z) (bit-cases j h.walkers))
       (λ j l. refl)

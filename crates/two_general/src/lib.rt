@@ -1,13 +1,14 @@
 // The two-level planner for orders 2 to 5: choices, block paths, heads, and the paths written. Inner: the planner meets each `requires`.
 #![tactic(auto)]
 
-ghost use Rattle.std.specs.Prelude.{◌≡◌, List, ℕ, ◌+◌, ◌-◌, ◌*◌, ◌/◌, ◌%◌, ◌^◌, ◌<◌, ◌≤◌, ◌≢◌, length, take};
+ghost use Rattle.std.specs.Prelude.{◌≡◌, true, List, Option, ℕ, ◌+◌, ◌-◌, ◌*◌, ◌^◌, ◌<◌, ◌≤◌, ◌≢◌, length, take};
 ghost use Rattle.cube_math.specs.Masks.{at};
 ghost use Rattle.two_write.specs.Row.{hops};
-ghost use Rattle.two_general.specs.Draft.{State, Inside, AllInside, Somewhere, Leaves};
+ghost use Rattle.two_gate.specs.Says.{Tells};
+ghost use Rattle.two_takeover.specs.declared.Taken as taken;
+ghost use Rattle.two_general.specs.Draft.{State, Inside, AllInside, Leaves, who_of};
 ghost use Rattle.two_general.specs.Legs as legs;
-ghost use Rattle.two_general.specs.Path.{head_if, HeadAsk, PathAsk, Wrote};
-ghost use Rattle.two_write.specs.Slots.{Slotted};
+ghost use Rattle.two_general.specs.Path.{head_if, PathAsk, Wrote};
 ghost use Rattle.two_write.specs.Rows.{Drawing, Drawn};
 ghost use Rattle.cube_math.specs.Choose.{Chosen};
 ghost use Rattle.two_general.specs.Filled.{Filled};
@@ -19,197 +20,167 @@ ghost use Rattle.two_parts.specs.Two.{two, block_of, slot_of};
 ghost use Rattle.two_general.specs.Paths.{Held, Inner, Put, Pathed, Writes};
 
 use two_choose::Choice;
+use two_gate::{Home, Targets};
 use two_parts::Order;
-use two_takeover::Taken;
+use two_takeover::{Tail, Taken};
+
+// Whether j takes a block path over.
+fn takes(taken: &Option<Taken>, j: u32) -> bool
+    requires { j < 8 }
+    ensures { Tells (j ≡ who_of taken.now) result }
+{
+    match taken {
+        Some(taken) => taken.who == j,
+        None => false,
+    }
+}
 
 // The slot by which the path of j leaves the source's block.
 fn leave_of(
-    s0: u64,
-    p0: u32,
-    slots: [u32; 8],
-    c: Choice,
-    o: Taken,
-    grid: &[u64; 560],
+    home: Home,
+    targets: &Targets,
+    choice: &Choice,
+    taken: &Option<Taken>,
+    ways: &[u64; 560],
     j: u32,
 ) -> u32
-    requires { Inside s0 p0 slots c o grid.now j }
-    ensures { Leaves s0 p0 slots c o grid.now j result }
+    requires { Inside home.block home.slot targets.now.slots choice.now taken.now ways.now j }
+    ensures { Leaves home.block home.slot targets.now.slots choice.now taken.now ways.now j result }
 {
-    if j == o.who {
-        return p0;
+    if takes(taken, j) {
+        return home.slot;
     }
-    if bits::bit(c.inner, j) {
-        return slots[j as usize];
+    if bits::bit(choice.inner, j) {
+        return targets.slots[j as usize];
     }
-    if bits::bit(c.straight, j) {
-        let gates = c.gates;
-        return gates[j as usize];
+    if bits::bit(choice.straight, j) {
+        return choice.gates.slots[j as usize];
     }
-    bits::lowest(s0 ^ two_write::hop(grid, j as usize, 0))
-}
-
-// A tail: the first `len` of these slots.
-#[derive(Clone, Copy)]
-struct Tail {
-    len: usize,
-    slots: [u64; 8],
+    bits::lowest(home.block ^ two_write::row(ways, j as usize)[0])
 }
 
 // The tail through a gate: its slot, and the target's if that is another.
 fn gate_tail(gate: u32, slot: u32) -> Tail
     ensures { legs.GateTail gate slot result.len result.slots }
 {
-    let mut t = [0u64; 8];
-    t[0] = gate as u64;
-    t[1] = slot as u64;
+    let mut slots = [0u64; 8];
+    slots[0] = u64::from(gate);
+    slots[1] = u64::from(slot);
     if gate == slot {
-        return Tail { len: 1, slots: t };
+        return Tail { len: 1, slots };
     }
-    Tail { len: 2, slots: t }
+    Tail { len: 2, slots }
 }
 
-// How many relays the path of a row has after its source.
-fn row_len(grid: &[u64; 560], row: usize) -> usize
-    requires { (row < 16) × (length (hops grid.now row) < 34) }
-    ensures { result ≡ length (hops grid.now row) }
-{
-    grid[row * 35] as usize
-}
-
-// What a path is made of after its head: the first n blocks of a row, to the slot `last` of the last; and a tail of slots.
+// What a path is made of after its head: blocks, to the slot `last` of the last of them; and a tail of slots of the target's block.
 #[derive(Clone, Copy)]
-pub struct Leg {
-    pub row: usize,
-    pub n: usize,
-    pub last: u32,
-    pub len: usize,
-    pub tail: [u64; 8],
+struct Leg<'a> {
+    blocks: &'a [u64],
+    last: u32,
+    tail: Tail,
 }
 
-// The rest of the path of j.
-fn leg_of(slots: [u32; 8], c: Choice, o: Taken, grid: &[u64; 560], j: u32) -> Leg
-    requires { Somewhere slots c o grid.now j }
-    ensures { (m s0 p0 k leave : ℕ) (blocks : List ℕ) → j < k → State m s0 p0 k blocks slots c o grid.now → Leaves s0 p0 slots c o grid.now j leave → legs.Leg m s0 p0 k blocks slots c o grid.now j leave result.row result.n result.last result.len result.tail }
+// The rest of the path of j, which takes no block path over.
+fn own_leg<'a>(targets: &Targets, choice: &Choice, ways: &'a [u64; 560], j: u32) -> Leg<'a>
+    requires { (s0 p0 : ℕ) × (o : Option taken.Taken) × (j ≢ who_of o) × Inside s0 p0 targets.now.slots choice.now o ways.now j }
+    ensures { (m s0 p0 k leave : ℕ) (blocks : List ℕ) (o : Option taken.Taken) → j ≢ who_of o → j < k → State m s0 p0 k blocks targets.now.slots choice.now o ways.now → Leaves s0 p0 targets.now.slots choice.now o ways.now j leave → legs.Leg m s0 p0 k blocks targets.now.slots choice.now o ways.now j leave result.blocks.now result.last result.tail.len result.tail.slots }
 {
     let i = j as usize;
-    let slot = slots[i];
-    if j == o.who {
-        let row = o.row;
-        let tail = o.tail;
-        let n = row_len(grid, row);
+    let slot = targets.slots[i];
+    let none = Tail {
+        len: 0,
+        slots: [0u64; 8],
+    };
+    if bits::bit(choice.inner, j) {
         return Leg {
-            row,
-            n: n - 1,
-            last: o.enter,
-            len: o.len,
-            tail,
-        };
-    }
-    if bits::bit(c.inner, j) {
-        return Leg {
-            row: 0,
-            n: 0,
+            blocks: &ways[..0],
             last: slot,
-            len: 0,
-            tail: [0u64; 8],
+            tail: none,
         };
     }
-    let gates = c.gates;
-    let gate = gates[i];
-    let t = gate_tail(gate, slot);
-    let tail = t.slots;
-    if bits::bit(c.straight, j) {
+    let gate = choice.gates.slots[i];
+    let through = gate_tail(gate, slot);
+    if bits::bit(choice.straight, j) {
         return Leg {
-            row: 0,
-            n: 0,
+            blocks: &ways[..0],
             last: gate,
-            len: t.len,
-            tail,
+            tail: through,
         };
     }
-    let n = row_len(grid, i);
-    if bits::bit(c.gated, j) {
+    let blocks = two_write::row(ways, i);
+    if bits::bit(choice.gates.gated, j) {
         return Leg {
-            row: i,
-            n,
+            blocks,
             last: gate,
-            len: t.len,
-            tail,
+            tail: through,
         };
     }
     Leg {
-        row: i,
-        n,
+        blocks,
         last: slot,
-        len: 0,
-        tail,
+        tail: none,
     }
 }
 
-// Writes the head of a path, if it walks in the source's block.
-fn write_head_if(
-    m: u32,
-    s0: u64,
-    heads: &[u64; 560],
-    j: usize,
-    walks: bool,
-    at: usize,
-    out: &mut [u64],
-) -> usize
-    requires { HeadAsk m s0 heads.now j walks × (at + length (head_if walks (hops heads.now j)) ≤ length out.old) }
-    ensures { Slotted m s0 (head_if walks (hops heads.now j)) at out.old out.new result }
+// The rest of the path of j.
+fn leg_of<'a>(
+    targets: &Targets,
+    choice: &Choice,
+    taken: &Option<Taken>,
+    ways: &'a [u64; 560],
+    j: u32,
+) -> Leg<'a>
+    requires { (s0 p0 : ℕ) × Inside s0 p0 targets.now.slots choice.now taken.now ways.now j }
+    ensures { (m s0 p0 k leave : ℕ) (blocks : List ℕ) → j < k → State m s0 p0 k blocks targets.now.slots choice.now taken.now ways.now → Leaves s0 p0 targets.now.slots choice.now taken.now ways.now j leave → legs.Leg m s0 p0 k blocks targets.now.slots choice.now taken.now ways.now j leave result.blocks.now result.last result.tail.len result.tail.slots }
+{
+    match taken {
+        Some(taken) if taken.who == j => {
+            let path = two_write::row(ways, taken.row);
+            Leg {
+                blocks: &path[..path.len() - 1],
+                last: taken.enter,
+                tail: taken.tail,
+            }
+        },
+        _ => own_leg(targets, choice, ways, j),
+    }
+}
+
+// The head of a path, if it walks in the source's block.
+fn head_of(heads: &[u64; 560], j: usize, walks: bool) -> &[u64]
+    requires { (j < 16) × (walks ≡ true → length (hops heads.now j) < 34) }
+    ensures { result.now ≡ head_if walks (hops heads.now j) }
 {
     if walks {
-        return two_write::write_head(m, s0, heads, j, at, out);
+        return two_write::row(heads, j);
     }
-    at
+    &heads[..0]
 }
 
-// Writes the path of j, to a target in block b, from the place `at` on, and returns its hops.
+// Writes a path to a target in block b, from the place `at` on, and returns its hops.
 fn write_path(
-    m: u32,
-    s0: u64,
+    home: Home,
     b: u64,
     source: u64,
-    heads: &[u64; 560],
-    j: usize,
-    walks: bool,
+    head: &[u64],
     leave: u32,
-    leg: Leg,
-    grid: &[u64; 560],
+    leg: &Leg,
     at: usize,
     out: &mut [u64],
 ) -> u64
-    requires { PathAsk m s0 b heads.now j walks grid.now leave leg.row leg.n leg.last leg.len leg.tail at (length out.old) }
-    ensures { Wrote m s0 b source (head_if walks (hops heads.now j)) (take leg.n (hops grid.now leg.row)) leave leg.last (take leg.len leg.tail) at out.old out.new result }
+    requires { PathAsk home.order home.block b head.now leave leg.now.blocks.now leg.now.last leg.now.tail.len leg.now.tail.slots at (length out.old) }
+    ensures { Wrote home.order home.block b source head.now leg.now.blocks.now leave leg.now.last (take leg.now.tail.len leg.now.tail.slots) at out.old out.new result }
 {
-    let row = leg.row;
-    let n = leg.n;
-    let last = leg.last;
-    let len = leg.len;
-    let tail = leg.tail;
+    let m = home.order;
+    let tail = &leg.tail;
     out[at] = source;
-    let p = write_head_if(m, s0, heads, j, walks, at + 1, out);
-    let q = two_write::write_blocks(m, s0, grid, row, n, leave as u64, last as u64, p, out);
-    let r = two_write::write_slots(m, b, tail, len, q, out);
+    let p = two_write::write_slots(m, home.block, head, at + 1, out);
+    let q = two_write::write_blocks(m, leg.blocks, leave as u64, leg.last as u64, p, out);
+    let r = two_write::write_slots(m, b, &tail.slots[..tail.len], q, out);
     (r - at - 1) as u64
 }
 
 // ---- the targets, taken apart
-
-// The block of each target.
-fn blocks_of(order: Order, targets: &[u64]) -> [u64; 8]
-    requires { (order.0 ≤ 5) × (length targets.now ≤ 8) }
-    ensures { Filled 8 (length targets.now) (λ j v. v ≡ block_of order.0 (at targets.now j)) result }
-{
-    let mut r = [0u64; 8];
-    let mut i: usize = 0;
-    while i < targets.len() {
-        r[i] = two_parts::block_of(order, targets[i]).0;
-        i += 1;
-    }
-    r
-}
 
 // The slot of a relay, as a bit's place.
 fn slot_of(order: Order, relay: u64) -> u32
@@ -219,140 +190,109 @@ fn slot_of(order: Order, relay: u64) -> u32
     two_parts::slot_of(order, relay).0 as u32
 }
 
-// The slot of each target.
-fn slots_of(order: Order, targets: &[u64]) -> [u32; 8]
+// The block and the slot of each target.
+fn taken_apart(order: Order, targets: &[u64]) -> Targets
     requires { (order.0 ≤ 5) × (length targets.now ≤ 8) }
-    ensures { Filled 8 (length targets.now) (λ j v. v ≡ slot_of order.0 (at targets.now j)) result }
+    ensures count { result.count ≡ length targets.now }
+    ensures blocks { Filled 8 (length targets.now) (λ j v. v ≡ block_of order.0 (at targets.now j)) result.blocks }
+    ensures slots { Filled 8 (length targets.now) (λ j v. v ≡ slot_of order.0 (at targets.now j)) result.slots }
 {
-    let mut r = [0u32; 8];
-    let mut i: usize = 0;
-    while i < targets.len() {
-        r[i] = slot_of(order, targets[i]);
-        i += 1;
+    let mut blocks = [0u64; 8];
+    let mut slots = [0u32; 8];
+    for (i, target) in targets.iter().enumerate() {
+        blocks[i] = two_parts::block_of(order, *target).0;
+        slots[i] = slot_of(order, *target);
     }
-    r
+    Targets {
+        count: targets.len() as u32,
+        blocks,
+        slots,
+    }
 }
 
 // ---- all paths
 
 // The slots by which the paths leave the source's block.
 fn leaves_of(
-    s0: u64,
-    p0: u32,
-    slots: [u32; 8],
-    c: Choice,
-    o: Taken,
-    k: u32,
-    grid: &[u64; 560],
+    home: Home,
+    targets: &Targets,
+    choice: &Choice,
+    taken: &Option<Taken>,
+    ways: &[u64; 560],
 ) -> [u64; 16]
-    requires { AllInside s0 p0 k slots c o grid.now }
-    ensures { Filled 16 k (Leaves s0 p0 slots c o grid.now) result }
+    requires { AllInside home.block home.slot targets.now.count targets.now.slots choice.now taken.now ways.now }
+    ensures { Filled 16 targets.now.count (Leaves home.block home.slot targets.now.slots choice.now taken.now ways.now) result }
 {
-    let mut r = [0u64; 16];
-    let mut j: u32 = 0;
-    while j < k {
-        r[j as usize] = leave_of(s0, p0, slots, c, o, grid, j) as u64;
-        j += 1;
+    let mut leaves = [0u64; 16];
+    for j in 0..targets.count {
+        leaves[j as usize] = u64::from(leave_of(home, targets, choice, taken, ways, j));
     }
-    r
+    leaves
 }
 
 // The targets whose paths leave by another slot than the source's.
-fn walkers_of(leaves: [u64; 16], p0: u32, k: u32) -> u64
+fn walkers_of(leaves: &[u64; 16], p0: u32, k: u32) -> u64
     requires { k ≤ 8 }
-    ensures { Chosen (λ j. at leaves j ≢ p0) (λ j. at leaves j ≡ p0) (2 ^ k - 1) result }
+    ensures { Chosen (λ j. at leaves.now j ≢ p0) (λ j. at leaves.now j ≡ p0) (2 ^ k - 1) result }
 {
-    let mut found: u64 = 0;
-    let mut j: u32 = 0;
-    while j < k {
-        found = two_choose::add_if(found, j, leaves[j as usize] != p0 as u64);
-        j += 1;
-    }
-    found
+    two_choose::indices(k, |j| leaves[j as usize] != u64::from(p0))
+}
+
+// All that is chosen before a path is written: from where, to where, the choices, who takes a block path over, and by which slot each path leaves.
+#[derive(Clone, Copy)]
+struct Draft {
+    home: Home,
+    source: u64,
+    targets: Targets,
+    choice: Choice,
+    taken: Option<Taken>,
+    leaves: [u64; 16],
 }
 
 // Writes the path of j from the place `at` on, and returns its hops.
 fn put_path(
-    m: u32,
-    s0: u64,
-    p0: u32,
-    source: u64,
-    blocks: [u64; 8],
-    slots: [u32; 8],
-    c: Choice,
-    o: Taken,
-    leaves: [u64; 16],
+    draft: &Draft,
+    ways: &[u64; 560],
     heads: &[u64; 560],
-    grid: &[u64; 560],
     j: u32,
     at: usize,
     out: &mut [u64],
 ) -> u64
-    requires { (at + (most m + 1) ≤ length out.old) × Inner m s0 p0 blocks slots c o grid.now leaves heads.now j }
-    ensures { (k : ℕ) → j < k → Held m s0 p0 k blocks slots c o grid.now leaves heads.now → Put m s0 p0 k blocks slots c o grid.now leaves heads.now source j at out.old out.new result }
+    requires { (at + (most draft.now.home.order + 1) ≤ length out.old) × Inner draft.now.home.order draft.now.home.block draft.now.home.slot draft.now.targets.blocks draft.now.targets.slots draft.now.choice draft.now.taken ways.now draft.now.leaves heads.now j }
+    ensures { (k : ℕ) → j < k → Held draft.now.home.order draft.now.home.block draft.now.home.slot k draft.now.targets.blocks draft.now.targets.slots draft.now.choice draft.now.taken ways.now draft.now.leaves heads.now → Put draft.now.home.order draft.now.home.block draft.now.home.slot k draft.now.targets.blocks draft.now.targets.slots draft.now.choice draft.now.taken ways.now draft.now.leaves heads.now draft.now.source j at out.old out.new result }
 {
     let i = j as usize;
-    let leg = leg_of(slots, c, o, grid, j);
-    let leave = leaves[i];
-    let walks = leave != p0 as u64;
+    let leg = leg_of(&draft.targets, &draft.choice, &draft.taken, ways, j);
+    let leave = draft.leaves[i];
+    let walks = leave != draft.home.slot as u64;
+    let head = head_of(heads, i, walks);
     write_path(
-        m,
-        s0,
-        blocks[i],
-        source,
-        heads,
-        i,
-        walks,
+        draft.home,
+        draft.targets.blocks[i],
+        draft.source,
+        head,
         leave as u32,
-        leg,
-        grid,
+        &leg,
         at,
         out,
     )
 }
 
-// Writes the paths of all k targets, w places each, and their hops.
+// Writes the paths of all targets, w places each, and their hops.
 fn write_paths(
-    m: u32,
-    s0: u64,
-    p0: u32,
-    source: u64,
-    k: u32,
-    w: usize,
-    blocks: [u64; 8],
-    slots: [u32; 8],
-    c: Choice,
-    o: Taken,
-    leaves: [u64; 16],
+    draft: &Draft,
+    ways: &[u64; 560],
     heads: &[u64; 560],
-    grid: &[u64; 560],
+    w: usize,
     places: &mut [u64],
     counts: &mut [u64],
 )
-    requires { Writes m s0 p0 k w blocks slots c o grid.now leaves heads.now places.old counts.old }
-    ensures { Drawing w source k (Pathed m s0 p0 k blocks slots c o grid.now leaves heads.now) places.old counts.old places.new counts.new k }
+    requires { Writes draft.now.home.order draft.now.home.block draft.now.home.slot draft.now.targets.count w draft.now.targets.blocks draft.now.targets.slots draft.now.choice draft.now.taken ways.now draft.now.leaves heads.now places.old counts.old }
+    ensures { Drawing w draft.now.source draft.now.targets.count (Pathed draft.now.home.order draft.now.home.block draft.now.home.slot draft.now.targets.count draft.now.targets.blocks draft.now.targets.slots draft.now.choice draft.now.taken ways.now draft.now.leaves heads.now) places.old counts.old places.new counts.new draft.now.targets.count }
 {
-    let mut j: u32 = 0;
-    while j < k {
+    for j in 0..draft.targets.count {
         let i = j as usize;
-        let h = put_path(
-            m,
-            s0,
-            p0,
-            source,
-            blocks,
-            slots,
-            c,
-            o,
-            leaves,
-            heads,
-            grid,
-            j,
-            i * w,
-            places,
-        );
-        counts[i] = h;
-        j += 1;
+        counts[i] = put_path(draft, ways, heads, j, i * w, places);
     }
 }
 
@@ -372,35 +312,42 @@ fn block_bits(m: u32) -> u64
     dimensions(1 << m)
 }
 
-// Chooses, plans the block paths and the heads, and writes the paths of k targets in these blocks and slots.
-fn draw(
-    m: u32,
-    s0: u64,
-    p0: u32,
-    source: u64,
-    k: u32,
-    w: usize,
-    blocks: [u64; 8],
-    slots: [u32; 8],
-    places: &mut [u64],
-    counts: &mut [u64],
-)
-    requires { Draws m s0 p0 k w blocks slots places.old counts.old }
-    ensures { Painted m s0 p0 k w source blocks slots places.old counts.old places.new counts.new }
+// Chooses, plans the block paths and the heads, and writes the paths of the targets.
+fn draw(home: Home, source: u64, targets: Targets, w: usize, places: &mut [u64], counts: &mut [u64])
+    requires { Draws home.order home.block home.slot targets.count w targets.blocks targets.slots places.old counts.old }
+    ensures { Painted home.order home.block home.slot targets.count w source targets.blocks targets.slots places.old counts.old places.new counts.new }
 {
-    let c = two_choose::choose(m, s0, p0, k, blocks, slots);
-    let ends = c.ends;
-    let gates = c.gates;
+    let choice = two_choose::choose(home, &targets);
     let mut ways = [0u64; 560];
-    two_rows::plan_rows(block_bits(m), s0, c.shut, c.rows, ends, &mut ways);
-    let o = two_takeover::take_over(m, s0, p0, k, blocks, slots, gates, c.gated, c.reps, &ways);
-    let leaves = leaves_of(s0, p0, slots, c, o, k, &ways);
-    let walkers = walkers_of(leaves, p0, k);
-    let mut heads = [0u64; 560];
-    two_rows::plan_rows(dimensions(m), p0 as u64, 0, walkers, leaves, &mut heads);
-    write_paths(
-        m, s0, p0, source, k, w, blocks, slots, c, o, leaves, &heads, &ways, places, counts,
+    two_rows::plan_rows(
+        block_bits(home.order),
+        home.block,
+        choice.shut,
+        choice.rows,
+        &choice.ends,
+        &mut ways,
     );
+    let taken = two_takeover::take_over(home, &targets, &choice.gates, choice.reps, &ways);
+    let leaves = leaves_of(home, &targets, &choice, &taken, &ways);
+    let walkers = walkers_of(&leaves, home.slot, targets.count);
+    let mut heads = [0u64; 560];
+    two_rows::plan_rows(
+        dimensions(home.order),
+        u64::from(home.slot),
+        0,
+        walkers,
+        &leaves,
+        &mut heads,
+    );
+    let draft = Draft {
+        home,
+        source,
+        targets,
+        choice,
+        taken,
+        leaves,
+    };
+    write_paths(&draft, &ways, &heads, w, places, counts);
 }
 
 // Plans a request of order 2 to 5: fewer targets than links, or one of them outside the source's block.
@@ -416,10 +363,10 @@ pub fn general(
     ensures { Drawn (two m) source targets.now places.old counts.old places.new counts.new }
 {
     let order = Order(m as u64);
-    let blocks = blocks_of(order, targets);
-    let slots = slots_of(order, targets);
-    let s0 = two_parts::block_of(order, source).0;
-    let p0 = slot_of(order, source);
-    let k = targets.len() as u32;
-    draw(m, s0, p0, source, k, w, blocks, slots, places, counts);
+    let home = Home {
+        order: m,
+        block: two_parts::block_of(order, source).0,
+        slot: slot_of(order, source),
+    };
+    draw(home, source, taken_apart(order, targets), w, places, counts);
 }

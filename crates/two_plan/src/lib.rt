@@ -10,7 +10,7 @@ ghost use Rattle.mesh.specs.Kinds.{twos};
 ghost use Rattle.mesh.specs.Says.{request_against, short};
 ghost use Rattle.requests.specs.Planned.{Planned};
 
-use answers::{Checked, Refusal};
+use answers::Refusal;
 use mesh::Mesh;
 use paths::FILLER;
 use two::Order;
@@ -21,14 +21,9 @@ fn all_home(order: Order, source: u64, targets: &[u64]) -> bool
     ensures { Home order.0 source targets.now result }
 {
     let home = two_parts::block_of(order, source).0;
-    let mut i: usize = 0;
-    while i < targets.len() {
-        if two_parts::block_of(order, targets[i]).0 != home {
-            return false;
-        }
-        i += 1;
-    }
-    true
+    targets
+        .iter()
+        .all(|target| two_parts::block_of(order, *target).0 == home)
 }
 
 // Plans a sound request, where there is room. Inner: `planner` calls it for a request that it has checked.
@@ -41,12 +36,8 @@ pub fn lay(m: u32, source: u64, targets: &[u64], w: usize, places: &mut [u64], c
         two_ring::plan(source, targets, places, counts);
         return;
     }
-    if targets.len() == m as usize + 1 {
-        if all_home(Order(m as u64), source, targets) {
-            two_round::plan(m, source, targets, w, places, counts);
-            return;
-        }
-        two_general::general(m, source, targets, w, places, counts);
+    if targets.len() == m as usize + 1 && all_home(Order(m as u64), source, targets) {
+        two_round::plan(m, source, targets, w, places, counts);
         return;
     }
     two_general::general(m, source, targets, w, places, counts);
@@ -61,19 +52,16 @@ pub fn plan(
     targets: &[u64],
     places: &mut [u64],
     counts: &mut [u64],
-) -> Checked
+) -> Result<(), Refusal>
     ensures { Planned (request_against twos order.0 source targets.now (short (two order.0) (length targets.now) (length places.old) (length counts.old))) (two order.0) source targets.now places.old counts.old result places.new counts.new }
 {
     let mesh = Mesh {
         kind: Mesh::TWO,
         size: order.0,
     };
-    let checked = mesh::request(mesh, source, targets);
-    if let Checked::Refused(why) = checked {
-        return Checked::Refused(why);
-    }
+    mesh::request(mesh, source, targets)?;
     if mesh::short(mesh, targets.len(), places.len(), counts.len()) {
-        return Checked::Refused(Refusal::NoRoom);
+        return Err(Refusal::NoRoom);
     }
     lay(
         order.0 as u32,
@@ -83,5 +71,5 @@ pub fn plan(
         places,
         counts,
     );
-    Checked::Fine
+    Ok(())
 }

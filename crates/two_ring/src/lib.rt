@@ -40,10 +40,7 @@ fn far(source: u64, target: u64) -> u64
 fn step(right: bool) -> u64
     ensures { result ≡ step_of right }
 {
-    if right {
-        return 1;
-    }
-    7
+    if right { 1 } else { 7 }
 }
 
 // The hops of the way from the source to the target, right or left.
@@ -52,10 +49,7 @@ fn hops(source: u64, target: u64, right: bool) -> u64
     ensures { result ≡ hops_of right source target }
 {
     let n = far(source, target);
-    if right {
-        return n;
-    }
-    8 - n
+    if right { n } else { 8 - n }
 }
 
 // Writes n + 1 relays of the ring from the place `spot` on, `step` places on each time.
@@ -63,12 +57,10 @@ fn write(spot: u64, step: u64, n: usize, at: usize, out: &mut [u64])
     requires { (spot < 8) × (step ≤ 7) × (n ≤ 8) × (at + n < length out.old) }
     ensures { out.new ≡ sets out.old at (line spot step (n + 1)) }
 {
-    let mut i: usize = 0;
     let mut here = spot;
-    while i <= n {
+    for i in 0..=n {
         out[at + i] = relay(here);
         here += step;
-        i += 1;
     }
 }
 

@@ -2,7 +2,7 @@
 -- `trip_drawn`: they are a fan. Assumes nothing.
 use Rattle.std.specs.Prelude.{ℕ, suc, ◌+◌, ◌-◌, ◌*◌, ◌^◌, ◌≤◌, ◌<◌, ◌≡◌, ◌≢◌, List, [], ◌∷◌, ◌++◌, length, get_or, take, set}
 use Rattle.std.proofs.Math.Path.{refl}
-use Rattle.std.proofs.Common.{sym, ap, ◌∙◌, subst, ⊎_elim, add-one, arith, length-take, take_all}
+use Rattle.std.proofs.Common.{sym, ap, ◌∙◌, subst, ⊎_elim, add-one, arith, length-take, get_or-take}
 use Rattle.std.proofs.Math.Decide.{ℕ_discrete}
 use Rattle.std.proofs.lemmas.List.Edits.{sets}
 use Rattle.cube_math.specs.Masks.{at}
@@ -11,14 +11,14 @@ use Rattle.bits.specs.Laws.{lt-or-le}
 use Rattle.paths.specs.Mesh.{width}
 use Rattle.cube_math.specs.Doors.{Doors}
 use Rattle.cube_math.specs.Plain.{bit-full}
-use Rattle.two_write.specs.Row.{hops, hops-length}
+use Rattle.two_write.specs.Row.{hops}
 use Rattle.two_parts.specs.Two.{two, block_of, slot_of}
 use Rattle.two_math.specs.Relays.{Relay, inside, length-inside}
 use Rattle.two_math.specs.Through.{Crosses}
 use Rattle.two_math.specs.Assemble.{TwoFan}
 use Rattle.two_math.specs.Numbers.{numbers, length-numbers, numbers-fan}
 use Rattle.two_math.specs.Round.{round, when, when_yes, when_no, Heads, Upto, upto, heads-none, heads-swapped, round-fan}
-use Rattle.two_write.specs.Slots.{Slotted}
+use Rattle.two_write.specs.Slots.{Below, Slotted}
 use Rattle.two_write.specs.Rows.{Drawing, Drawn, drawing_more, drawing_drawn, drawn, drawn-has, lists_same}
 use Rattle.two_round.specs.Around.{Rounded}
 use Rattle.two_round.specs.Found.{Found}
@@ -35,11 +35,11 @@ pub record PathOf (m s0 p0 : ℕ) (to : List ℕ) (row n : ℕ) (g : List ℕ) (
   pub around : j ≡ row → (body : List Relay) × Crosses m s0 p0 (flip s0 (at to row)) (at to row) (round s0 p0 (at to row)) body × (l ≡ numbers m (body ++ inside s0 (at to row ∷ [])))
   pub inner : j ≢ row → l ≡ numbers m (inside s0 (head_of m row n g j))
 
--- the first k slots of row r are those of path j
-pub record Part (m row n : ℕ) (g : List ℕ) (j r k : ℕ) : Type 0 where
-  pub row_in : r < m
-  pub within : k ≤ length (hops g r)
-  pub is : take k (hops g r) ≡ head_of m row n g j
+-- these are the slots of path j
+pub record Part (m row n : ℕ) (g : List ℕ) (j : ℕ) (l : List ℕ) : Type 0 where
+  pub few : length l ≤ m + 1
+  pub below : Below m (length l) l
+  pub is : l ≡ head_of m row n g j
 
 -- path j is written
 pub record Written (m s s0 p0 w : ℕ) (to : List ℕ) (row n : ℕ) (g : List ℕ) (j : ℕ) (places counts places₁ counts₁ : List ℕ) : Type 0 where
@@ -51,17 +51,26 @@ pub record Written (m s s0 p0 w : ℕ) (to : List ℕ) (row n : ℕ) (g : List �
 
 module _ {m s0 p0 w : ℕ} {to : List ℕ} {row n : ℕ} {g : List ℕ} (c : Course m s0 p0 w to row n g) (j : ℕ) where
   -- the last path: the row that is cut
-  pub part_cut : j ≡ m → j ≢ row → Part m row n g j row n
+  pub cut_row : j ≡ m → j ≢ row → row < m
+  cut_row e ne = omega (arith, c.row_in)
+
+  pub part_cut : j ≡ m → j ≢ row → Part m row n g j (take n (hops g row))
   part_cut e ne =
-      let l : row < m = omega (arith, c.row_in) in
-      record { row_in = l; within = c.cut l; is = sym (when_yes (ℕ_discrete j m) (take n (hops g row)) (hops g j) e) }
+      let l : row < m = cut_row e ne in
+      let size : length (take n (hops g row)) ≡ n = length-take n (hops g row) ∙ omega (arith, c.cut l) in
+      record {
+        few = omega (arith, c.few row l, c.cut l);
+        below = λ i h. let lt : i < n = omega arith in rw get_or-take (c.below row l i (omega (arith, c.cut l)));
+        is = sym (when_yes (ℕ_discrete j m) (take n (hops g row)) (hops g j) e);
+      }
 
   -- any other: its own row, all of it
-  pub part-own : (k : ℕ) → j ≤ m → j ≢ m → k ≡ get_or g (j * 35) 0 → Part m row n g j j k
-  part-own k h ne e =
-      let l : j < m = omega arith in
-      let all : k ≡ length (hops g j) = omega (arith, hops-length g j, c.few j l, c.order) in
-      record { row_in = l; within = omega arith; is = take_all k (hops g j) (omega arith) ∙ sym (when_no (ℕ_discrete j m) (take n (hops g row)) (hops g j) ne) }
+  pub part-own : j ≤ m → j ≢ m → Part m row n g j (hops g j)
+  part-own h ne = record {
+    few = c.few j (omega arith);
+    below = c.below j (omega arith);
+    is = sym (when_no (ℕ_discrete j m) (take n (hops g row)) (hops g j) ne);
+  }
 
   pub written_around : (s r : ℕ) (places counts places₁ : List ℕ) → j ≡ row → Rounded m s s0 p0 (at to j) (j * w) places places₁ r
       → Written m s s0 p0 w to row n g j places counts places₁ (set counts j r)
@@ -80,16 +89,15 @@ module _ {m s0 p0 w : ℕ} {to : List ℕ} {row n : ℕ} {g : List ℕ} (c : Cou
     count = ap (set counts j) d.count;
   }
 
-  pub written_inner : (s r k x : ℕ) (places counts places₁ : List ℕ) → j ≢ row → Part m row n g j r k → Slotted m s0 (take k (hops g r)) (j * w + 1) (set places (j * w) s) places₁ x
-      → Written m s s0 p0 w to row n g j places counts places₁ (set counts j k)
-  written_inner s r k x places counts places₁ ne p d =
-      let slots : List ℕ = take k (hops g r) in
-      let size : length (numbers m (inside s0 slots)) ≡ k = length-numbers m (inside s0 slots) ∙ length-inside s0 slots ∙ length-take k (hops g r) ∙ omega (arith, p.within) in
+  pub written_inner : (s x : ℕ) (l places counts places₁ : List ℕ) → j ≢ row → Part m row n g j l → Slotted m s0 l (j * w + 1) (set places (j * w) s) places₁ x
+      → Written m s s0 p0 w to row n g j places counts places₁ (set counts j (length l))
+  written_inner s x l places counts places₁ ne p d =
+      let size : length (numbers m (inside s0 l)) ≡ length l = length-numbers m (inside s0 l) ∙ length-inside s0 l in
       record {
-        path = numbers m (inside s0 slots);
-        is = record { around = λ z. absurd (ne z); inner = λ z. ap (λ (l : List ℕ). numbers m (inside s0 l)) p.is };
-        short = omega (arith, p.within, c.few r p.row_in, c.wide);
-        wrote = d.wrote ∙ ap (λ (y : ℕ). sets (set places (j * w) s) y (numbers m (inside s0 slots))) (add-one (j * w));
+        path = numbers m (inside s0 l);
+        is = record { around = λ z. absurd (ne z); inner = λ z. ap (λ (y : List ℕ). numbers m (inside s0 y)) p.is };
+        short = omega (arith, p.few, c.wide);
+        wrote = d.wrote ∙ ap (λ (y : ℕ). sets (set places (j * w) s) y (numbers m (inside s0 l))) (add-one (j * w));
         count = ap (set counts j) (sym size);
       }
 

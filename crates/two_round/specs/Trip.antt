@@ -65,7 +65,6 @@ pub record Course (m s0 p0 w : ℕ) (to : List ℕ) (row n : ℕ) (g : List ℕ)
   pub home-block : s0 < 2 ^ (2 ^ m)
   pub home-slot : p0 < 2 ^ m
   pub slots : (j : ℕ) → j ≤ m → at to j < 2 ^ m
-  pub long : length g ≡ 560
   pub few : (j : ℕ) → j < m → length (hops g j) ≤ m + 1
   pub below : (j : ℕ) → j < m → Below m (length (hops g j)) (hops g j)
   pub row_in : row ≤ m
@@ -114,15 +113,12 @@ module _ {m s w : ℕ} {targets places counts to : List ℕ} (q : Trip m s w tar
     trip_fan = subst (λ (n : ℕ). Doors n (2 ^ m - 1) p0 0 (2 ^ m - 1) (at to) (hops g₁)) (ones-ones m)
         (subst (λ (y : ℕ). Doors (ones (y - 1)) (y - 1) p0 0 (y - 1) (at to) (hops g₁)) e p.fan)
 
-    trip_long : length g₁ ≡ 560
-    trip_long = p.long
-
     trip_few : (j : ℕ) → j < m → length (hops g₁ j) ≤ m + 1
     trip_few j l = (trip_fan.each j (bit-full m j l)).short
 
     -- what searching the paths asks
-    pub trip_finds : (m ≤ 5) × (length g₁ ≡ 560) × ((j : ℕ) → j < m → length (hops g₁ j) < 34)
-    trip_finds = (q.high, trip_long, λ j l. omega (arith, trip_few j l, q.high))
+    pub trip_finds : (m ≤ 5) × ((j : ℕ) → j < m → length (hops g₁ j) < 34)
+    trip_finds = (q.high, λ j l. omega (arith, trip_few j l, q.high))
 
     pub trip_course : (row n : ℕ) → Found m g₁ (at to m) row n → Course m s0 p0 w to row n g₁
     trip_course row n f = record {
@@ -130,7 +126,6 @@ module _ {m s w : ℕ} {targets places counts to : List ℕ} (q : Trip m s w tar
       home-block = trip_ask.home-block;
       home-slot = trip_ask.home-slot;
       slots = λ j l. trip_ask.slots j (omega (arith, q.all));
-      long = trip_long;
       few = trip_few;
       below = λ j l i k. walk-below m (2 ^ m - 1) p0 (at to j) (hops g₁ j) (full-below m) trip_ask.home-slot (trip_fan.each j (bit-full m j l)).walk (get_or (hops g₁ j) i 0) (in_at (hops g₁ j) 0 i k);
       row_in = f.within;

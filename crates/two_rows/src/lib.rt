@@ -1,13 +1,15 @@
 // A cube fan in the rows of a grid: 16 rows of 35 places. Inner: the two-level planner meets each `requires`.
 #![tactic(auto)]
 
-ghost use Rattle.std.specs.Prelude.{◌≡◌, ℕ, length};
+ghost use Rattle.std.specs.Prelude.{◌≡◌, ℕ};
 ghost use Rattle.two_rows.specs.Rows.{Few, Started, Ask, Gives};
 
+use cube_split::Start;
+
 // Begins the row of each member of the set with its target.
-fn start_rows(set: u64, to: [u64; 16], grid: &mut [u64])
-    requires { Few set × (length grid.old ≡ 560) }
-    ensures { Started set to 0 grid.new }
+fn start_rows(set: u64, to: &[u64; 16], grid: &mut [u64; 560])
+    requires { Few set }
+    ensures { Started set to.now 0 grid.new }
 {
     let mut todo = set;
     while todo != 0 {
@@ -18,10 +20,10 @@ fn start_rows(set: u64, to: [u64; 16], grid: &mut [u64])
 }
 
 // Paths from s to the targets of the set, in the dimensions `free`, through doors that are not shut: that of j in row j.
-pub fn plan_rows(free: u64, s: u64, shut: u64, set: u64, to: [u64; 16], grid: &mut [u64])
-    requires { Ask free s shut set to × (length grid.old ≡ 560) }
-    ensures { Gives free s shut set to grid.new }
+pub fn plan_rows(free: u64, s: u64, shut: u64, set: u64, to: &[u64; 16], grid: &mut [u64; 560])
+    requires { Ask free s shut set to.now }
+    ensures { Gives free s shut set to.now grid.new }
 {
     start_rows(set, to, grid);
-    cube_split::plan(free, s, shut, set, 35, grid);
+    cube_split::plan(Start { free, s, shut }, set, 35, grid);
 }

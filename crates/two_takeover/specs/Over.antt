@@ -1,5 +1,5 @@
 -- Who takes over the block path through the door p0, and by which tail: what the parts of the search give. Assumes nothing.
-use Rattle.std.specs.Prelude.{ℕ, zero, suc, ◌+◌, ◌-◌, ◌*◌, ◌^◌, ◌<◌, ◌≡◌, refl, ◌⊎◌, ◌≢◌, Bool, true, List, [], ◌∷◌, ◌++◌, length, get_or, eqb}
+use Rattle.std.specs.Prelude.{ℕ, zero, suc, ◌+◌, ◌-◌, ◌^◌, ◌<◌, ◌≡◌, refl, ◌⊎◌, ◌≢◌, Bool, true, List, [], ◌∷◌, ◌++◌, Option, Some, None, length, get_or, eqb}
 use Rattle.std.proofs.Common.{sym, ap, ◌∙◌, subst, ⊎_elim, arith, length-append, eq-eqb}
 use Rattle.std.proofs.Math.ListN.{get_or-append}
 use Rattle.std.proofs.lemmas.List.{get_or_at}
@@ -12,7 +12,7 @@ use Rattle.cube_math.specs.Doors.{Walk}
 use Rattle.cube_math.specs.Choose.{cleared}
 use Rattle.cube_math.specs.Plain.{full-below}
 use Rattle.bits.specs.Parts.{bit_below}
-use Rattle.two_write.specs.Row.{hops, hops-length}
+use Rattle.two_write.specs.Row.{hops}
 use Rattle.two_math.specs.Loops.{last, walk_split, walk_hop, door-of}
 use Rattle.two_gate.specs.Says.{Tells}
 
@@ -20,15 +20,14 @@ use Rattle.two_gate.specs.Says.{Tells}
 
 -- the block paths of the crowds
 pub record Crowds (reps : ℕ) (g : List ℕ) : Type 0 where
-  pub long : length g ≡ 560
   pub few : (r : ℕ) → bit r reps ≡ 1 → r < 8
   pub short : (r : ℕ) → bit r reps ≡ 1 → length (hops g (8 + r)) < 34
   pub some : (r : ℕ) → bit r reps ≡ 1 → (x : ℕ) × (l : List ℕ) × (hops g (8 + r) ≡ x ∷ l)
 
--- r is the crowd whose block path begins with `front`, or 8
-pub record CrowdBy (reps front : ℕ) (g : List ℕ) (r : ℕ) : Type 0 where
-  pub found : r ≢ 8 → (bit r reps ≡ 1) × ((l : List ℕ) × (hops g (8 + r) ≡ front ∷ l))
-  pub none : r ≡ 8 → (q : ℕ) (l : List ℕ) → bit q reps ≡ 1 → hops g (8 + q) ≡ front ∷ l → ⊥
+-- r is the crowd whose block path begins with `front`
+pub record CrowdBy (reps front : ℕ) (g : List ℕ) (o : Option ℕ) : Type 0 where
+  pub found : (r : ℕ) → o ≡ Some r → (bit r reps ≡ 1) × ((l : List ℕ) × (hops g (8 + r) ≡ front ∷ l))
+  pub none : o ≡ None → (q : ℕ) (l : List ℕ) → bit q reps ≡ 1 → hops g (8 + q) ≡ front ∷ l → ⊥
 
 -- ---- who is met
 
@@ -39,10 +38,16 @@ Meets tb tp gate gated b x i = (bit i gated ≡ 1) × (tb i ≡ b) × ((x ≡ ga
 abbrev pub Hit : (k : ℕ) (tb tp gate : ℕ → ℕ) (gated b x : ℕ) → Type 0
 Hit k tb tp gate gated b x = (i : ℕ) × (i < k) × Meets tb tp gate gated b x i
 
--- i is met at x, or 8 and nobody is
-pub record Met (k : ℕ) (tb tp gate : ℕ → ℕ) (gated b x i : ℕ) : Type 0 where
-  pub found : i ≢ 8 → (i < k) × Meets tb tp gate gated b x i
-  pub none : i ≡ 8 → Hit k tb tp gate gated b x → ⊥
+-- i is met at x, or nobody is
+pub record Met (k : ℕ) (tb tp gate : ℕ → ℕ) (gated b x : ℕ) (o : Option ℕ) : Type 0 where
+  pub found : (i : ℕ) → o ≡ Some i → (i < k) × Meets tb tp gate gated b x i
+  pub none : o ≡ None → Hit k tb tp gate gated b x → ⊥
+
+pub met_found : {k : ℕ} (tb tp gate : ℕ → ℕ) (gated b x i : ℕ) → i < k → Meets tb tp gate gated b x i → Met k tb tp gate gated b x (Some i)
+met_found {k} tb tp gate gated b x i lt m = record {
+  found = λ q s. let same : i ≡ q = cc in subst (λ (y : ℕ). (y < k) × Meets tb tp gate gated b x y) same (lt, m);
+  none = λ z. cc;
+}
 
 pub none_more : (A : ℕ → Type 0) (n : ℕ) → ((i : ℕ) → i < n → A i → ⊥) → (A n → ⊥) → (i : ℕ) → i < n + 1 → A i → ⊥
 none_more A n h g i l a = ⊎_elim (λ q. h i q a) (λ r. ⊎_elim (λ e. g (subst A e a)) (λ q. absurd (omega arith)) r) (lt-or i n)
@@ -68,8 +73,8 @@ first_in : (g : List ℕ) (row v : ℕ) → FirstIs g row v → (x : ℕ) (l : L
 first_in g row v f x l e = f ∙ ap (λ (y : List ℕ). get_or y 0 0) e
 
 -- the row of a crowd can be read
-pub crowd_read : {reps : ℕ} {g : List ℕ} (r : ℕ) → Crowds reps g → bit r reps ≡ 1 → (8 + r < 16) × (length g ≡ 560) × (length (hops g (8 + r)) < 34) × (0 < length (hops g (8 + r)))
-crowd_read r a o = let x = a.some r o in (omega (arith, a.few r o), a.long, a.short r o, omega (arith, ap length x.2))
+pub crowd_read : {reps : ℕ} {g : List ℕ} (r : ℕ) → Crowds reps g → bit r reps ≡ 1 → (8 + r < 16) × (length (hops g (8 + r)) < 34) × (0 < length (hops g (8 + r)))
+crowd_read r a o = let x = a.some r o in (omega (arith, a.few r o), a.short r o, omega (arith, ap length x.2))
 
 pub crowding_more : {reps front : ℕ} {g : List ℕ} {todo : ℕ} (r v next : ℕ) → Crowding reps front g todo → bit r todo ≡ 1 → FirstIs g (8 + r) v → v ≢ front → next ≡ flip todo r
     → Crowding reps front g next
@@ -79,14 +84,17 @@ crowding_more {reps} {front} {g} {todo} r v next k o f ne e =
       none = λ q l p z h. ⊎_elim (λ s. ne (first_in g (8 + r) v f front l (ap (λ (y : ℕ). hops g (8 + y)) (sym s) ∙ h))) (λ n. k.none q l p (sym (flip-other todo r q n) ∙ z) h) (same_or q r);
     })
 
-pub crowd_found : {reps front : ℕ} {g : List ℕ} (r v : ℕ) → Crowds reps g → bit r reps ≡ 1 → FirstIs g (8 + r) v → v ≡ front → CrowdBy reps front g r
-crowd_found {reps} {front} {g} r v a o f e = record {
-  found = λ ne. let x = a.some r o in (o, (x.1, x.2 ∙ ap (λ (y : ℕ). y ∷ x.1) (sym (first_in g (8 + r) v f x.0 x.1 x.2) ∙ e)));
-  none = λ z. absurd (omega (arith, a.few r o));
-}
+pub crowd_found : {reps front : ℕ} {g : List ℕ} (r v : ℕ) → Crowds reps g → bit r reps ≡ 1 → FirstIs g (8 + r) v → v ≡ front → CrowdBy reps front g (Some r)
+crowd_found {reps} {front} {g} r v a o f e =
+    let x = a.some r o in
+    let first : hops g (8 + r) ≡ front ∷ x.1 = x.2 ∙ ap (λ (y : ℕ). y ∷ x.1) (sym (first_in g (8 + r) v f x.0 x.1 x.2) ∙ e) in
+    record {
+      found = λ q s. let same : r ≡ q = cc in subst (λ (y : ℕ). (bit y reps ≡ 1) × ((l : List ℕ) × (hops g (8 + y) ≡ front ∷ l))) same (o, (x.1, first));
+      none = λ z. cc;
+    }
 
-pub crowd_none : {reps front : ℕ} {g : List ℕ} → Crowding reps front g 0 → CrowdBy reps front g 8
-crowd_none k = record { found = λ ne. absurd (ne refl); none = λ e q l o. k.none q l o (bit-none q) }
+pub crowd_none : {reps front : ℕ} {g : List ℕ} → Crowding reps front g 0 → CrowdBy reps front g None
+crowd_none k = record { found = λ r e. cc; none = λ e q l o. k.none q l o (bit-none q) }
 
 -- what is told of one target
 pub meets_to : (tb tp gate : ℕ → ℕ) (gated b x i : ℕ) {f r : Bool} → f ≡ eqb (bit i gated) 1 → Tells ((f ≡ true) × (tb i ≡ b) × ((x ≡ gate i) ⊎ (x ≡ tp i))) r → Tells (Meets tb tp gate gated b x i) r
@@ -102,7 +110,6 @@ fewer todo j next o e = omega (arith, ones_clear j todo o, ap ones e)
 
 -- the block path of the row, from s0 by the door p0 to `end`
 pub record LastAsk (m s0 p0 end : ℕ) (g : List ℕ) (row : ℕ) : Type 0 where
-  pub long : length g ≡ 560
   pub row_in : row < 16
   pub short : length (hops g row) < 34
   pub walk : Walk (2 ^ (2 ^ m) - 1) s0 end (hops g row)
@@ -183,7 +190,3 @@ module _ {m s0 p0 end : ℕ} {g : List ℕ} {row : ℕ} (a : LastAsk m s0 p0 end
         where
           one : (n : ℕ) → suc (suc n) - 1 ≡ suc n
           one n = omega arith
-
--- a row says how many relays it has
-pub row_count : (g : List ℕ) (j : ℕ) → length (hops g j) < 34 → get_or g (j * 35) 0 ≡ length (hops g j)
-row_count g j h = omega (arith, hops-length g j)

@@ -1,10 +1,11 @@
 -- The search for whoever takes over, whole: what may be asked (`OverAsk`), and what it gives (`Over`). Assumes nothing.
-use Rattle.std.specs.Prelude.{ℕ, ◌+◌, ◌-◌, ◌^◌, ◌≤◌, ◌<◌, ◌≡◌, refl, ◌≢◌, List, ◌∷◌, length, take}
-use Rattle.std.proofs.Common.{sym, ap, ◌∙◌, inr, arith}
+use Rattle.std.specs.Prelude.{ℕ, ◌+◌, ◌-◌, ◌^◌, ◌≤◌, ◌<◌, ◌≡◌, refl, List, ◌∷◌, Option, Some, None, length, take}
+use Rattle.std.proofs.Common.{sym, ap, subst, ◌∙◌, inr, arith}
 use Rattle.cube_math.specs.Masks.{at}
 use Rattle.bits.specs.Bit.{bit, flip}
 use Rattle.cube_math.specs.Doors.{Walk}
 use Rattle.two_write.specs.Row.{hops}
+use Rattle.two_takeover.specs.declared.Taken.{Taken}
 use Rattle.two_takeover.specs.Over.{Crowds, CrowdBy, LastAsk, Enters}
 use Rattle.two_takeover.specs.Tail.{TailAsk, Tailed}
 
@@ -29,26 +30,25 @@ pub record Takes (m s0 p0 k : ℕ) (blocks slots gates : List ℕ) (gated reps :
   pub few : len ≤ 7
   pub long : length tail ≡ 8
 
-pub record Over (m s0 p0 k : ℕ) (blocks slots gates : List ℕ) (gated reps : ℕ) (g : List ℕ) (who row enter len : ℕ) (tail : List ℕ) : Type 0 where
-  pub nobody : who ≡ 8 → (q : ℕ) (l : List ℕ) → bit q reps ≡ 1 → hops g (8 + q) ≡ flip s0 p0 ∷ l → ⊥
-  pub someone : who ≢ 8 → Takes m s0 p0 k blocks slots gates gated reps g who row enter len tail
+pub record Over (m s0 p0 k : ℕ) (blocks slots gates : List ℕ) (gated reps : ℕ) (g : List ℕ) (o : Option Taken) : Type 0 where
+  pub nobody : o ≡ None → (q : ℕ) (l : List ℕ) → bit q reps ≡ 1 → hops g (8 + q) ≡ flip s0 p0 ∷ l → ⊥
+  pub someone : (t : Taken) → o ≡ Some t → Takes m s0 p0 k blocks slots gates gated reps g t.who t.row t.enter t.tail.len t.tail.slots
 
 module _ {m s0 p0 k : ℕ} {blocks slots gates : List ℕ} {gated reps : ℕ} {g : List ℕ} (a : OverAsk m s0 p0 k blocks slots gates gated reps g) where
-  pub over_none : {front r row enter len : ℕ} {tail : List ℕ} → front ≡ flip s0 p0 → CrowdBy reps front g r → r ≡ 8 → Over m s0 p0 k blocks slots gates gated reps g 8 row enter len tail
+  pub over_none : {front : ℕ} {o : Option ℕ} → front ≡ flip s0 p0 → CrowdBy reps front g o → o ≡ None → Over m s0 p0 k blocks slots gates gated reps g None
   over_none {front} e c z = record {
     nobody = λ w q l o h. c.none z q l o (h ∙ ap (λ (y : ℕ). y ∷ l) (sym e));
-    someone = λ ne. absurd (ne refl);
+    someone = λ t w. cc;
   }
 
-  module _ {front r : ℕ} (e : front ≡ flip s0 p0) (c : CrowdBy reps front g r) (ne : r ≢ 8) where
+  module _ {front r : ℕ} {o : Option ℕ} (e : front ≡ flip s0 p0) (c : CrowdBy reps front g o) (is : o ≡ Some r) where
     pub small : r < 8
-    small = a.crowds.few r (c.found ne).0
+    small = a.crowds.few r (c.found r is).0
 
     pub last_ask : LastAsk m s0 p0 (at blocks r) g (8 + r)
     last_ask =
-        let f = c.found ne in
+        let f = c.found r is in
         record {
-          long = a.crowds.long;
           row_in = omega (arith, small);
           short = a.crowds.short r f.0;
           walk = a.walk r f.0;
@@ -59,7 +59,7 @@ module _ {m s0 p0 k : ℕ} {blocks slots gates : List ℕ} {gated reps : ℕ} {g
 
     pub tail_ask : {enter : ℕ} → Enters m s0 (at blocks r) g (8 + r) enter → TailAsk m k (at blocks) (at slots) (at gates) gated (at blocks r) enter (at slots r)
     tail_ask n =
-        let x = a.member r (c.found ne).0 in
+        let x = a.member r (c.found r is).0 in
         record {
           order = a.order;
           few = a.few;
@@ -69,19 +69,20 @@ module _ {m s0 p0 k : ℕ} {blocks slots gates : List ℕ} {gated reps : ℕ} {g
           slots = a.slot;
         }
 
-    pub over-some : {enter who len : ℕ} {tail : List ℕ} → Enters m s0 (at blocks r) g (8 + r) enter
-        → Tailed m k (at blocks) (at slots) (at gates) gated (at blocks r) enter who (take len tail) → len ≤ 7 → length tail ≡ 8 → Over m s0 p0 k blocks slots gates gated reps g who (8 + r) enter len tail
-    over-some n t h q = record {
-      nobody = λ z. absurd (omega (arith, t.within, a.few));
-      someone = λ w. record {
+    pub over-some : (t : Taken) → t.row ≡ 8 + r → Enters m s0 (at blocks r) g (8 + r) t.enter
+        → Tailed m k (at blocks) (at slots) (at gates) gated (at blocks r) t.enter t.who (take t.tail.len t.tail.slots) → t.tail.len ≤ 7 → length t.tail.slots ≡ 8
+        → Over m s0 p0 k blocks slots gates gated reps g (Some t)
+    over-some t row n tail h q = record {
+      nobody = λ z. cc;
+      someone = λ u w. let same : t ≡ u = cc in subst (λ (y : Taken). Takes m s0 p0 k blocks slots gates gated reps g y.who y.row y.enter y.tail.len y.tail.slots) same (record {
         r = r;
-        rep = (c.found ne).0;
-        row_is = refl;
-        rest = (c.found ne).1.0;
-        first = (c.found ne).1.1 ∙ ap (λ (y : ℕ). y ∷ (c.found ne).1.0) e;
+        rep = (c.found r is).0;
+        row_is = row;
+        rest = (c.found r is).1.0;
+        first = (c.found r is).1.1 ∙ ap (λ (y : ℕ). y ∷ (c.found r is).1.0) e;
         enters = n;
-        tailed = t;
+        tailed = tail;
         few = h;
         long = q;
-      };
+      });
     }

@@ -9,84 +9,66 @@ ghost use Rattle.two_takeover.specs.Over.{Crowds, CrowdBy, LastAsk, Enters, Met}
 ghost use Rattle.two_takeover.specs.Tail.{TailAsk, Tailed};
 ghost use Rattle.two_takeover.specs.TakeOver.{OverAsk, Over};
 
-// A tail: slots of a block, `len` of them, to the target `who`.
+use two_gate::{Gates, Home, Targets};
+
+// A tail: the first `len` of these slots of a block.
 #[derive(Clone, Copy)]
 pub struct Tail {
-    pub who: u32,
     pub len: usize,
     pub slots: [u64; 8],
 }
 
-// Who takes the block path of a row over (8: nobody), by which slot it enters its last block, and its tail there.
+// Who takes the block path of a row over, by which slot it enters its last block, and its tail there.
 #[derive(Clone, Copy)]
 pub struct Taken {
     pub who: u32,
     pub row: usize,
     pub enter: u32,
-    pub len: usize,
-    pub tail: [u64; 8],
+    pub tail: Tail,
 }
 
-// The crowd whose block path begins with the block `front`, or 8.
-fn crowd_by(reps: u64, front: u64, grid: &[u64; 560]) -> u32
+// The crowd whose block path begins with the block `front`.
+fn crowd_by(reps: u64, front: u64, grid: &[u64; 560]) -> Option<u32>
     requires { Crowds reps grid.now }
     ensures { CrowdBy reps front grid.now result }
 {
     let mut todo = reps;
     while todo != 0 {
         let r = bits::lowest(todo);
-        if two_write::hop(grid, 8 + r as usize, 0) == front {
-            return r;
+        if two_write::row(grid, 8 + r as usize)[0] == front {
+            return Some(r);
         }
         todo = bits::flip(todo, r);
     }
-    8
+    None
 }
 
 // Whether a target at (block, slot) is gated, stands in block b, and has its slot or its gate slot at x.
 fn meets(block: u64, slot: u32, gate: u32, gated: bool, b: u64, x: u32) -> bool
     ensures { Tells ((gated ≡ true) × (block ≡ b) × ((x ≡ gate) ⊎ (x ≡ slot))) result }
 {
-    if !gated {
-        return false;
-    }
-    if block != b {
-        return false;
-    }
-    if gate == x {
-        return true;
-    }
-    slot == x
+    gated && block == b && (gate == x || slot == x)
 }
 
-// The gated target of block b whose slot or gate slot is x, or 8.
-fn met(
-    blocks: [u64; 8],
-    slots: [u32; 8],
-    gates: [u32; 8],
-    gated: u64,
-    k: u32,
-    b: u64,
-    x: u32,
-) -> u32
-    requires { k < 8 }
-    ensures { Met k (at blocks) (at slots) (at gates) gated b x result }
+// The gated target of block b whose slot or gate slot is x.
+fn met(targets: &Targets, gates: &Gates, b: u64, x: u32) -> Option<u32>
+    requires { targets.now.count < 8 }
+    ensures { Met targets.now.count (at targets.now.blocks) (at targets.now.slots) (at gates.now.slots) gates.now.gated b x result }
 {
-    let mut i: u32 = 0;
-    while i < k {
+    for i in 0..targets.count {
+        let j = i as usize;
         if meets(
-            blocks[i as usize],
-            slots[i as usize],
-            gates[i as usize],
-            bits::bit(gated, i),
+            targets.blocks[j],
+            targets.slots[j],
+            gates.slots[j],
+            bits::bit(gates.gated, i),
             b,
             x,
         ) {
-            return i;
+            return Some(i);
         }
-        i += 1;
     }
-    8
+    None
 }
 
 // The slot after `here` on the way to `to`.
@@ -94,109 +76,74 @@ fn step(here: u32, to: u32) -> u32
     requires { (here < 32) × (to < 32) × (here ≡ to → ⊥) }
     ensures { Next here to result }
 {
-    here ^ (1 << bits::lowest((here ^ to) as u64))
+    here ^ (1 << bits::lowest(u64::from(here ^ to)))
 }
 
 // The slot by which the last block of a row is entered.
-fn enter_by(m: u32, s0: u64, p0: u32, end: u64, grid: &[u64; 560], row: usize) -> u32
-    requires { LastAsk m s0 p0 end grid.now row }
-    ensures { Enters m s0 end grid.now row result }
+fn enter_by(home: Home, end: u64, grid: &[u64; 560], row: usize) -> u32
+    requires { LastAsk home.order home.block home.slot end grid.now row }
+    ensures { Enters home.order home.block end grid.now row result }
 {
-    let n = grid[row * 35] as usize;
+    let path = two_write::row(grid, row);
+    let n = path.len();
     if n == 1 {
-        return p0;
+        return home.slot;
     }
-    bits::lowest(two_write::hop(grid, row, n - 2) ^ two_write::hop(grid, row, n - 1))
+    bits::lowest(path[n - 2] ^ path[n - 1])
 }
 
-// The walk from the slot `enter` of block b towards the slot `to`, up to the first gated target that it meets.
-fn tail_of(
-    m: u32,
-    blocks: [u64; 8],
-    slots: [u32; 8],
-    gates: [u32; 8],
-    gated: u64,
-    k: u32,
-    b: u64,
-    enter: u32,
-    to: u32,
-) -> Tail
-    requires { TailAsk m k (at blocks) (at slots) (at gates) gated b enter to }
-    ensures { Tailed m k (at blocks) (at slots) (at gates) gated b enter result.who (take result.len result.slots) × (result.len ≤ 7) × (length result.slots ≡ 8) }
+// The walk from the slot `enter` of block b towards the slot `to`, up to the first gated target that it meets: who that is, and the slots.
+fn tail_of(m: u32, targets: &Targets, gates: &Gates, b: u64, enter: u32, to: u32) -> (u32, Tail)
+    requires { TailAsk m targets.now.count (at targets.now.blocks) (at targets.now.slots) (at gates.now.slots) gates.now.gated b enter to }
+    ensures { Tailed m targets.now.count (at targets.now.blocks) (at targets.now.slots) (at gates.now.slots) gates.now.gated b enter result.0 (take result.1.len result.1.slots) × (result.1.len ≤ 7) × (length result.1.slots ≡ 8) }
 {
-    let mut tail = [0u64; 8];
-    tail[0] = enter as u64;
-    let mut len: usize = 1;
+    let mut slots = [0u64; 8];
+    slots[0] = u64::from(enter);
+    let mut len = 1;
     let mut here = enter;
-    let mut who = met(blocks, slots, gates, gated, k, b, here);
-    while who == 8 {
+    loop {
+        if let Some(who) = met(targets, gates, b, here) {
+            let slot = targets.slots[who as usize];
+            if slot == here {
+                return (who, Tail { len, slots });
+            }
+            slots[len] = u64::from(slot);
+            return (
+                who,
+                Tail {
+                    len: len + 1,
+                    slots,
+                },
+            );
+        }
         here = step(here, to);
-        tail[len] = here as u64;
+        slots[len] = u64::from(here);
         len += 1;
-        who = met(blocks, slots, gates, gated, k, b, here);
-    }
-    let slot = slots[who as usize];
-    if slot == here {
-        return Tail {
-            who,
-            len,
-            slots: tail,
-        };
-    }
-    tail[len] = slot as u64;
-    Tail {
-        who,
-        len: len + 1,
-        slots: tail,
     }
 }
 
-// Whether the block path through p0 ends in a crowd, and who takes it over then.
+// Who takes the block path through the source's slot over, if that path ends in a crowd.
 pub fn take_over(
-    m: u32,
-    s0: u64,
-    p0: u32,
-    k: u32,
-    blocks: [u64; 8],
-    slots: [u32; 8],
-    gates: [u32; 8],
-    gated: u64,
+    home: Home,
+    targets: &Targets,
+    gates: &Gates,
     reps: u64,
     grid: &[u64; 560],
-) -> Taken
-    requires { OverAsk m s0 p0 k blocks slots gates gated reps grid.now }
-    ensures { Over m s0 p0 k blocks slots gates gated reps grid.now result.who result.row result.enter result.len result.tail }
+) -> Option<Taken>
+    requires { OverAsk home.order home.block home.slot targets.now.count targets.now.blocks targets.now.slots gates.now.slots gates.now.gated reps grid.now }
+    ensures { Over home.order home.block home.slot targets.now.count targets.now.blocks targets.now.slots gates.now.slots gates.now.gated reps grid.now result }
 {
-    let r = crowd_by(reps, bits::flip(s0, p0), grid);
-    if r == 8 {
-        return Taken {
-            who: 8,
-            row: 0,
-            enter: 0,
-            len: 0,
-            tail: [0u64; 8],
-        };
-    }
+    let front = bits::flip(home.block, home.slot);
+    let r = crowd_by(reps, front, grid)?;
     let row = 8 + r as usize;
-    let b = blocks[r as usize];
-    let enter = enter_by(m, s0, p0, b, grid, row);
-    let t = tail_of(
-        m,
-        blocks,
-        slots,
-        gates,
-        gated,
-        k,
-        b,
-        enter,
-        slots[r as usize],
-    );
-    let tail = t.slots;
-    Taken {
-        who: t.who,
+    let b = targets.blocks[r as usize];
+    let to = targets.slots[r as usize];
+    let enter = enter_by(home, b, grid, row);
+    let (who, tail) = tail_of(home.order, targets, gates, b, enter, to);
+    Some(Taken {
+        who,
         row,
         enter,
-        len: t.len,
         tail,
-    }
+    })
 }

@@ -1,7 +1,7 @@
 -- The blocks of a block path, each entered by a door and walked through to the next (`Crossed`): what the loop that writes them keeps.
 -- A block path is a row of a grid. Assumes nothing.
-use Rattle.std.specs.Prelude.{ℕ, suc, ◌+◌, ◌-◌, ◌*◌, ◌^◌, ◌≤◌, ◌<◌, ◌≡◌, refl, ◌≢◌, List, [], ◌∷◌, ◌++◌, length, get_or, take, set}
-use Rattle.std.proofs.Common.{sym, ap, ◌∙◌, subst, inl, inr, add-zero, suc-mul, mul-le-mul_right, add-one, arith, length-append, length-take, take-suc, pow_mono, pow-add}
+use Rattle.std.specs.Prelude.{ℕ, zero, suc, ◌+◌, ◌-◌, ◌*◌, ◌^◌, ◌≤◌, ◌<◌, ◌≡◌, refl, ◌≢◌, List, [], ◌∷◌, ◌++◌, length, get_or, take, set}
+use Rattle.std.proofs.Common.{sym, ap, ◌∙◌, subst, inl, inr, add-zero, suc-mul, mul-le-mul_right, add-one, arith, length-append, length-take, take-suc, take_all, pow_mono, pow-add}
 use Rattle.std.proofs.lemmas.List.Edits.{sets}
 use Rattle.std.proofs.Math.Seq.{length-sets}
 use Rattle.std.specs.Int.Bits.{bit_xor}
@@ -66,19 +66,22 @@ pub record Goes (m s0 : ℕ) (g : List ℕ) (row : ℕ) : Type 0 where
   pub walk : Walk (2 ^ (2 ^ m) - 1) s0 end (hops g row)
   pub few : length (hops g row) < 34
 
--- what may be asked: the first n blocks of the row, from s0 by the slot `leave`, to the slot `last` of the last of them
-pub record Ways (m s0 : ℕ) (g : List ℕ) (row n leave last at size : ℕ) : Type 0 where
+-- the first of them are one
+pub walk-take : (free n u t : ℕ) (l : List ℕ) → Walk free u t l → (e : ℕ) × Walk free u e (take n l)
+walk-take free zero u t l w = (u, refl)
+walk-take free (suc n) u t [] w = (u, refl)
+walk-take free (suc n) u t (v ∷ l) w = let r = walk-take free n v t l w.3 in (r.0, (w.0, w.1, w.2, r.1))
+
+-- what may be asked: the blocks of a path, from s0 by the slot `leave`, to the slot `last` of the last of them
+pub record Ways (m s0 : ℕ) (path : List ℕ) (leave last at size : ℕ) : Type 0 where
   pub order : m ≤ 5
   pub home : s0 < 2 ^ (2 ^ m)
-  pub goes : 0 < n → Goes m s0 g row
-  pub some : n ≤ length (hops g row)
-  pub row_in : row < 16
-  pub long : length g ≡ 560
-  pub first : 0 < n → get_or (hops g row) 0 0 ≡ flip s0 leave
+  pub goes : 0 < length path → (end : ℕ) × Walk (2 ^ (2 ^ m) - 1) s0 end path
+  pub first : 0 < length path → get_or path 0 0 ≡ flip s0 leave
   pub leave_in : leave < 2 ^ m
   pub last_in : last < 2 ^ m
-  pub stays : n ≡ 0 → leave ≡ last
-  pub room : at + n * suc m ≤ size
+  pub stays : length path ≡ 0 → leave ≡ last
+  pub room : at + length path * suc m ≤ size
 
 -- the blocks of the route are crossed, to the slot q of the block `last`: the relays stand from `at` on, up to r
 pub record Crossed (m s0 leave q : ℕ) (route : List ℕ) (at : ℕ) (was now : List ℕ) (r : ℕ) : Type 0 where
@@ -89,63 +92,56 @@ pub record Crossed (m s0 leave q : ℕ) (route : List ℕ) (at : ℕ) (was now :
   pub next : r ≡ at + length body
 
 -- the slot by which block i is left
-pub record Exit (m : ℕ) (g : List ℕ) (row n last i e : ℕ) : Type 0 where
+pub record Exit (m : ℕ) (path : List ℕ) (last i e : ℕ) : Type 0 where
   pub within : e < 2 ^ m
-  pub ends : i + 1 ≡ n → e ≡ last
-  pub goes : i + 1 < n → get_or (hops g row) (i + 1) 0 ≡ flip (get_or (hops g row) i 0) e
+  pub ends : i + 1 ≡ length path → e ≡ last
+  pub goes : i + 1 < length path → get_or path (i + 1) 0 ≡ flip (get_or path i 0) e
 
-pub record Crossing (m s0 : ℕ) (g : List ℕ) (row n leave last at : ℕ) (was now : List ℕ) (slot p i : ℕ) : Type 0 where
-  pub bound : i ≤ n
+pub record Crossing (m s0 : ℕ) (path : List ℕ) (leave last at : ℕ) (was now : List ℕ) (slot p i : ℕ) : Type 0 where
+  pub bound : i ≤ length path
   pub here : ℕ
   pub body : List Relay
-  pub crosses : Crosses m s0 leave here slot (take i (hops g row)) body
+  pub crosses : Crosses m s0 leave here slot (take i path) body
   pub slot_in : slot < 2 ^ m
-  pub door : i < n → get_or (hops g row) i 0 ≡ flip here slot
-  pub done : i ≡ n → slot ≡ last
+  pub door : i < length path → get_or path i 0 ≡ flip here slot
+  pub done : i ≡ length path → slot ≡ last
   pub wrote : now ≡ sets was at (numbers m body)
   pub next : p ≡ at + length body
   pub long : length now ≡ length was
 
-module _ {m s0 : ℕ} {g : List ℕ} {row n leave last at size : ℕ} (w : Ways m s0 g row n leave last at size) where
-  pub crossing-block : (i : ℕ) → i < n → get_or (hops g row) i 0 < 2 ^ (2 ^ m)
+module _ {m s0 : ℕ} {path : List ℕ} {leave last at size : ℕ} (w : Ways m s0 path leave last at size) where
+  pub crossing-block : (i : ℕ) → i < length path → get_or path i 0 < 2 ^ (2 ^ m)
   crossing-block i h =
       let r = w.goes (omega arith) in
-      walk-below (2 ^ m) (2 ^ (2 ^ m) - 1) s0 r.end (hops g row) (full-below (2 ^ m)) w.home r.walk (get_or (hops g row) i 0) (in_at (hops g row) 0 i (omega (arith, w.some)))
-
-  -- what reading a relay of the row asks
-  pub hop_ask : (i : ℕ) → i < n → (row < 16) × (length g ≡ 560) × (length (hops g row) < 34) × (i < length (hops g row))
-  hop_ask i h = (w.row_in, w.long, (w.goes (omega arith)).few, omega (arith, w.some))
+      walk-below (2 ^ m) (2 ^ (2 ^ m) - 1) s0 r.0 path (full-below (2 ^ m)) w.home r.1 (get_or path i 0) (in_at path 0 i (omega arith))
 
   -- the next block is behind a door of block i
-  next-door : (i : ℕ) → i + 1 < n → (d : ℕ) × (d < 2 ^ m) × (get_or (hops g row) (i + 1) 0 ≡ flip (get_or (hops g row) i 0) d)
+  next-door : (i : ℕ) → i + 1 < length path → (d : ℕ) × (d < 2 ^ m) × (get_or path (i + 1) 0 ≡ flip (get_or path i 0) d)
   next-door i h =
       let r = w.goes (omega arith) in
-      let x = walk_hop (2 ^ (2 ^ m) - 1) s0 r.end (i + 1) (hops g row) r.walk (omega (arith, w.some)) in
-      (x.0, full-below (2 ^ m) x.0 x.1, x.2 ∙ ap (λ (y : ℕ). flip (get_or (s0 ∷ hops g row) y 0) x.0) (add-one i))
+      let x = walk_hop (2 ^ (2 ^ m) - 1) s0 r.0 (i + 1) path r.1 (omega arith) in
+      (x.0, full-below (2 ^ m) x.0 x.1, x.2 ∙ ap (λ (y : ℕ). flip (get_or (s0 ∷ path) y 0) x.0) (add-one i))
 
-  pub next_differs : (i x y : ℕ) → i + 1 < n → x ≡ get_or (hops g row) i 0 → y ≡ get_or (hops g row) (i + 1) 0 → bit_xor x y ≢ 0
+  pub next_differs : (i x y : ℕ) → i + 1 < length path → x ≡ get_or path i 0 → y ≡ get_or path (i + 1) 0 → bit_xor x y ≢ 0
   next_differs i x y h ex ey z =
       let d = next-door i h in
-      flip-moves (get_or (hops g row) i 0) d.0 (sym d.2 ∙ sym ey ∙ sym (xor-zero-eq x y z) ∙ ex)
+      flip-moves (get_or path i 0) d.0 (sym d.2 ∙ sym ey ∙ sym (xor-zero-eq x y z) ∙ ex)
 
-  pub exit_door : (i x y e : ℕ) → i + 1 < n → x ≡ get_or (hops g row) i 0 → y ≡ get_or (hops g row) (i + 1) 0 → Lowest 64 (bit_xor x y) e → Exit m g row n last i e
+  pub exit_door : (i x y e : ℕ) → i + 1 < length path → x ≡ get_or path i 0 → y ≡ get_or path (i + 1) 0 → Lowest 64 (bit_xor x y) e → Exit m path last i e
   exit_door i x y e h ex ey low =
       let d = next-door i h in
       let same : e ≡ d.0 = door-of 64 x y d.0 e (ey ∙ d.2 ∙ ap (λ (u : ℕ). flip u d.0) (sym ex)) low in
       record {
         within = subst (λ (u : ℕ). u < 2 ^ m) (sym same) d.1;
         ends = λ z. absurd (omega arith);
-        goes = λ z. d.2 ∙ ap (flip (get_or (hops g row) i 0)) (sym same);
+        goes = λ z. d.2 ∙ ap (flip (get_or path i 0)) (sym same);
       }
 
-  pub exit_last : (i : ℕ) → i + 1 ≡ n → Exit m g row n last i last
+  pub exit_last : (i : ℕ) → i + 1 ≡ length path → Exit m path last i last
   exit_last i e = record { within = w.last_in; ends = λ z. refl; goes = λ z. absurd (omega arith) }
 
-module _ (m s0 : ℕ) (g : List ℕ) (row n leave last at : ℕ) (was : List ℕ) (w : Ways m s0 g row n leave last at (length was)) where
-  abbrev path : List ℕ
-  path = hops g row
-
-  pub crossing-none : Crossing m s0 g row n leave last at was was leave at 0
+module _ (m s0 : ℕ) (path : List ℕ) (leave last at : ℕ) (was : List ℕ) (w : Ways m s0 path leave last at (length was)) where
+  pub crossing-none : Crossing m s0 path leave last at was was leave at 0
   crossing-none = record {
     bound = omega arith;
     here = s0;
@@ -159,23 +155,23 @@ module _ (m s0 : ℕ) (g : List ℕ) (row n leave last at : ℕ) (was : List ℕ
     long = refl;
   }
 
-  module _ (now : List ℕ) (slot p i : ℕ) (k : Crossing m s0 g row n leave last at was now slot p i) (lt : i < n) where
+  module _ (now : List ℕ) (slot p i : ℕ) (k : Crossing m s0 path leave last at was now slot p i) (lt : i < length path) where
     size : length (take i path) ≡ i
-    size = length-take i path ∙ omega (arith, w.some)
+    size = length-take i path ∙ omega arith
 
     pub crossing-room : p + suc m ≤ length now
     crossing-room =
-        let steps : i * suc m + suc m ≤ n * suc m = omega (arith, mul-le-mul_right (suc m) lt, suc-mul i (suc m)) in
+        let steps : i * suc m + suc m ≤ length path * suc m = omega (arith, mul-le-mul_right (suc m) lt, suc-mul i (suc m)) in
         omega (arith, crosses_short m s0 leave k.here slot (take i path) k.body k.crosses, ap (λ (y : ℕ). y * suc m) size, k.next, k.long, w.room)
 
-    pub crossing-more : (x₁ e r : ℕ) (after : List ℕ) → x₁ ≡ get_or path i 0 → Exit m g row n last i e → Entered m x₁ slot e p now after r
-        → Crossing m s0 g row n leave last at was after e r (i + 1)
+    pub crossing-more : (x₁ e r : ℕ) (after : List ℕ) → x₁ ≡ get_or path i 0 → Exit m path last i e → Entered m x₁ slot e p now after r
+        → Crossing m s0 path leave last at was after e r (i + 1)
     crossing-more x₁ e r after is x d₁ =
         let b : ℕ = get_or path i 0 in
         let d : Entered m b slot e p now after r = subst (λ (y : ℕ). Entered m y slot e p now after r) is d₁ in
         let at_b : b ≡ flip k.here slot = k.door lt in
         let more = crosses_more m s0 leave k.here slot e (take i path) k.body d.way k.crosses d.stroll in
-        let taken : take (i + 1) path ≡ take i path ++ (b ∷ []) = ap (λ (y : ℕ). take y path) (add-one i) ∙ take-suc path i 0 (omega (arith, w.some)) in
+        let taken : take (i + 1) path ≡ take i path ++ (b ∷ []) = ap (λ (y : ℕ). take y path) (add-one i) ∙ take-suc path i 0 (omega arith) in
         record {
           bound = omega arith;
           here = b;
@@ -193,14 +189,14 @@ module _ (m s0 : ℕ) (g : List ℕ) (row n leave last at : ℕ) (was : List ℕ
           long = ap length d.wrote ∙ length-sets now p (numbers m (inside b (slot ∷ d.way))) ∙ k.long;
         }
 
-  pub crossing_done : (now : List ℕ) (slot p i : ℕ) → Crossing m s0 g row n leave last at was now slot p i → n ≤ i → Crossed m s0 leave last (take n path) at was now p
+  pub crossing_done : (now : List ℕ) (slot p i : ℕ) → Crossing m s0 path leave last at was now slot p i → length path ≤ i → Crossed m s0 leave last path at was now p
   crossing_done now slot p i k h =
-      let all : i ≡ n = omega (arith, k.bound) in
+      let all : i ≡ length path = omega (arith, k.bound) in
       record {
         last = k.here;
         body = k.body;
-        crosses = subst (λ (y : ℕ). Crosses m s0 leave k.here y (take n path) k.body) (k.done all)
-            (subst (λ (y : ℕ). Crosses m s0 leave k.here slot (take y path) k.body) all k.crosses);
+        crosses = subst (λ (y : ℕ). Crosses m s0 leave k.here y path k.body) (k.done all)
+            (subst (λ (y : List ℕ). Crosses m s0 leave k.here slot y k.body) (take_all i path (omega arith)) k.crosses);
         wrote = k.wrote;
         next = k.next;
       }

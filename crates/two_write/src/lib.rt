@@ -1,7 +1,7 @@
 // Paths of the two-level mesh written into a slice, piece by piece. Inner: the planner meets each `requires`.
 #![tactic(auto)]
 
-ghost use Rattle.std.specs.Prelude.{◌≡◌, ℕ, suc, ◌+◌, ◌*◌, ◌^◌, ◌<◌, ◌≤◌, length, get_or, take};
+ghost use Rattle.std.specs.Prelude.{◌≡◌, ℕ, suc, ◌+◌, ◌*◌, ◌^◌, ◌<◌, ◌≤◌, length};
 ghost use Rattle.two_write.specs.Row.{hops};
 ghost use Rattle.two_write.specs.Walked.{Room, Walked, Next};
 ghost use Rattle.two_write.specs.Blocks.{Entered, Ways, Crossed, Exit};
@@ -48,108 +48,57 @@ pub fn write_block(m: u32, b: u64, p: u64, q: u64, at: usize, out: &mut [u64]) -
     write_walk(m, first, p, q, at + 1, out)
 }
 
-// The relay after i hops of the path of a row, from 0.
-pub fn hop(grid: &[u64; 560], row: usize, i: usize) -> u64
-    requires { (row < 16) × (length grid.now ≡ 560) × (length (hops grid.now row) < 34) × (i < length (hops grid.now row)) }
-    ensures { result ≡ get_or (hops grid.now row) i 0 }
+// The path of a row without its first: as many of the row's last places as its first place says.
+pub fn row(grid: &[u64; 560], j: usize) -> &[u64]
+    requires { (j < 16) × (length (hops grid.now j) < 34) }
+    ensures { result.now ≡ hops grid.now j }
 {
-    grid[row * 35 + (35 - grid[row * 35] as usize) + i]
+    let end = j * 35 + 35;
+    let n = grid[j * 35] as usize;
+    &grid[end - n..end]
 }
 
-// The slot by which block i of a row is left: the door to the next, or `last` in the last of n.
-fn exit(
-    m: u32,
-    s0: u64,
-    grid: &[u64; 560],
-    row: usize,
-    n: usize,
-    leave: u64,
-    last: u64,
-    i: usize,
-) -> u64
-    requires { (i < n) × ((at size : ℕ) × Ways m s0 grid.now row n leave last at size) }
-    ensures { Exit m grid.now row n last i result }
+// The slot by which block i of a path is left: the door to the next, or `last` in the last.
+fn exit(blocks: &[u64], i: usize, last: u64) -> u64
+    requires { (i < length blocks.now) × ((m s0 leave at size : ℕ) × Ways m s0 blocks.now leave last at size) }
+    ensures { (m s0 leave at size : ℕ) → Ways m s0 blocks.now leave last at size → Exit m blocks.now last i result }
 {
-    if i + 1 == n {
+    if i + 1 == blocks.len() {
         return last;
     }
-    bits::lowest(hop(grid, row, i) ^ hop(grid, row, i + 1)) as u64
+    u64::from(bits::lowest(blocks[i] ^ blocks[i + 1]))
 }
 
-// Writes the relays of the first n blocks of a row, which leaves s0 by the slot `leave`, to the slot `last` of the last of them.
+// Writes the relays of the blocks of a path, which leaves the source's block by the slot `leave`, to the slot `last` of the last of them.
 pub fn write_blocks(
     m: u32,
-    s0: u64,
-    grid: &[u64; 560],
-    row: usize,
-    n: usize,
+    blocks: &[u64],
     leave: u64,
     last: u64,
     at: usize,
     out: &mut [u64],
 ) -> usize
-    requires { Ways m s0 grid.now row n leave last at (length out.old) }
-    ensures { Crossed m s0 leave last (take n (hops grid.now row)) at out.old out.new result }
+    requires { (s0 : ℕ) × Ways m s0 blocks.now leave last at (length out.old) }
+    ensures { (s0 : ℕ) → Ways m s0 blocks.now leave last at (length out.old) → Crossed m s0 leave last blocks.now at out.old out.new result }
 {
     let mut slot = leave;
-    let mut p = at;
-    let mut i: usize = 0;
-    while i < n {
-        let e = exit(m, s0, grid, row, n, leave, last, i);
-        p = write_block(m, hop(grid, row, i), slot, e, p, out);
-        slot = e;
-        i += 1;
+    let mut next = at;
+    for (i, block) in blocks.iter().enumerate() {
+        let door = exit(blocks, i, last);
+        next = write_block(m, *block, slot, door, next, out);
+        slot = door;
     }
-    p
+    next
 }
 
-// Writes the relays of the first n slots of the array, all of block b.
-pub fn write_slots(m: u32, b: u64, slots: [u64; 8], n: usize, at: usize, out: &mut [u64]) -> usize
-    requires { (m ≤ 5) × (b < 2 ^ (2 ^ m)) × (n ≤ 8) × Below m n slots × (at + n ≤ length out.old) }
-    ensures { Slotted m b (take n slots) at out.old out.new result }
+// Writes the relays of slots of block b.
+pub fn write_slots(m: u32, b: u64, slots: &[u64], at: usize, out: &mut [u64]) -> usize
+    requires { (m ≤ 5) × (b < 2 ^ (2 ^ m)) × Below m (length slots.now) slots.now × (at + length slots.now ≤ length out.old) }
+    ensures { Slotted m b slots.now at out.old out.new result }
 {
     let first = base(m, b);
-    let mut i: usize = 0;
-    while i < n {
-        out[at + i] = first + slots[i];
-        i += 1;
+    for (i, slot) in slots.iter().enumerate() {
+        out[at + i] = first + *slot;
     }
-    at + n
-}
-
-// Writes the relays of the first n slots of a row, all of block b.
-pub fn write_part(
-    m: u32,
-    b: u64,
-    grid: &[u64; 560],
-    row: usize,
-    n: usize,
-    at: usize,
-    out: &mut [u64],
-) -> usize
-    requires { (m ≤ 5) × (b < 2 ^ (2 ^ m)) × (row < 16) × (length grid.now ≡ 560) × (length (hops grid.now row) < 34) × (n ≤ length (hops grid.now row)) × Below m n (hops grid.now row) × (at + n ≤ length out.old) }
-    ensures { Slotted m b (take n (hops grid.now row)) at out.old out.new result }
-{
-    let first = base(m, b);
-    let mut i: usize = 0;
-    while i < n {
-        out[at + i] = first + hop(grid, row, i);
-        i += 1;
-    }
-    at + n
-}
-
-// Writes the relays of the slots of a row, all of block b.
-pub fn write_head(
-    m: u32,
-    b: u64,
-    grid: &[u64; 560],
-    row: usize,
-    at: usize,
-    out: &mut [u64],
-) -> usize
-    requires { (m ≤ 5) × (b < 2 ^ (2 ^ m)) × (row < 16) × (length grid.now ≡ 560) × (length (hops grid.now row) < 34) × Below m (length (hops grid.now row)) (hops grid.now row) × (at + length (hops grid.now row) ≤ length out.old) }
-    ensures { Slotted m b (hops grid.now row) at out.old out.new result }
-{
-    write_part(m, b, grid, row, grid[row * 35] as usize, at, out)
+    at + slots.len()
 }

@@ -4,7 +4,7 @@ use Rattle.bundle.specs.Ends.{chosen_none, chosen_more, chosen_all}
 use Rattle.bundle.proofs.choose.Goals as goal
 
 pub loop-i-init : goal.loop-i-init
-loop-i-init c = record { pair = c.requires; long = refl; chosen = chosen_none _ _ _ _ _ refl }
+loop-i-init c = record { bound = omega arith; pair = c.requires; long = refl; chosen = chosen_none _ _ _ _ _ refl }
 
 pub near-requires : goal.near-requires
 near-requires c =
@@ -23,6 +23,7 @@ loop-i-preserved c =
     let a = c.args in
     let inv = c.loop-i.invariant in
     record {
+      bound = omega (arith, c.loop-i-test.true);
       pair = inv.pair;
       long = simp length-set inv.long;
       chosen = chosen_more inv.chosen (omega (arith, c.loop-i-test.true, inv.pair.room, inv.long))
@@ -30,4 +31,4 @@ loop-i-preserved c =
     }
 
 pub returns : goal.returns
-returns c = chosen_all (omega arith) c.loop-i.invariant.chosen
+returns c = let inv = c.loop-i.invariant in chosen_all (omega (arith, inv.bound, c.loop-i-test.false)) inv.chosen

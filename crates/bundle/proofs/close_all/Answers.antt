@@ -8,7 +8,7 @@ next : {w k : ℕ} {ends : List ℕ} {t : ℕ} {l m c d : List ℕ} {i : ℕ} �
 next {w} {k} {ends} {t} {l} {m} {c} {d} {i} v h = row_closable v.rows h (omega (arith, v.rows.short i h, v.closed.kept i (omega arith)))
 
 pub loop-i-init : goal.loop-i-init
-loop-i-init c = record { rows = c.requires; long = refl; long_counts = refl; closed = closed_none _ _ _ _ _ _ _ refl }
+loop-i-init c = record { bound = omega arith; rows = c.requires; long = refl; long_counts = refl; closed = closed_none _ _ _ _ _ _ _ refl }
 
 pub overflow_add-w : goal.overflow_add-w
 overflow_add-w c = let u = next c.loop-i.invariant c.loop-i-test.true in search rules
@@ -28,8 +28,8 @@ bounds-counts-i c = let inv = c.loop-i.invariant in omega (arith, c.loop-i-test.
 pub bounds-ends-i : goal.bounds-ends-i
 bounds-ends-i c = let inv = c.loop-i.invariant in omega (arith, c.loop-i-test.true, inv.rows.ended)
 
-pub close-requires : goal.close-requires
-close-requires c = next c.loop-i.invariant c.loop-i-test.true
+pub close-h-requires : goal.close-h-requires
+close-h-requires c = next c.loop-i.invariant c.loop-i-test.true
 
 pub bounds-counts-i-in-loop-i : goal.bounds-counts-i-in-loop-i
 bounds-counts-i-in-loop-i c = let inv = c.loop-i.invariant in omega (arith, c.loop-i-test.true, inv.rows.counted, inv.long_counts)
@@ -38,13 +38,14 @@ pub loop-i-preserved : goal.loop-i-preserved
 loop-i-preserved c =
     let inv = c.loop-i.invariant in
     let h = c.loop-i-test.true in
-    let kept = c.close.auto.places in
+    let kept = c.close-h.auto.places in
     record {
+      bound = omega (arith, h);
       rows = record { ended = inv.rows.ended; room = omega (arith, inv.rows.room, kept); counted = inv.rows.counted; short = inv.rows.short };
       long = kept ∙ inv.long;
       long_counts = simp length-set inv.long_counts;
-      closed = closed-more inv.closed h (omega (arith, h, inv.rows.counted, inv.long_counts)) c.close.ensures;
+      closed = closed-more inv.closed h (omega (arith, h, inv.rows.counted, inv.long_counts)) c.close-h.ensures;
     }
 
 pub returns : goal.returns
-returns c = let inv = c.loop-i.invariant in closed_all (omega arith) inv.closed
+returns c = let inv = c.loop-i.invariant in closed_all (omega (arith, inv.bound, c.loop-i-test.false)) inv.closed

@@ -1,9 +1,10 @@
 -- `bundle::close_all` meets its contract. The loop's invariant: the first i rows are closed, the others are where they were. Assumes nothing.
-use Rattle.std.proofs.Common.{ℕ, ◌-◌, ◌≤◌, ◌≡◌, List, length}
+use Rattle.std.proofs.Common.{ℕ, ◌≤◌, ◌≡◌, List, length}
 use Rattle.bundle.specs.Closing.{Rows, Closed}
 use Rattle.bundle.proofs.close_all.Given as goal
 
 pub record Inv (w k : ℕ) (ends : List ℕ) (t : ℕ) (l m c d : List ℕ) (i : ℕ) : Type 0 where
+  pub bound : i ≤ k
   pub rows : Rows w k (length ends) (length m) c
   pub long : length m ≡ length l
   pub long_counts : length d ≡ length c

@@ -6,6 +6,6 @@ pub returns-then-yes : goal.returns-then-yes
 unfolding added
 returns-then-yes c = ap (bit_or c.args.set) c.power.ensures ∙ sym (ap (added c.args.set c.args.j) c.if-yes.true)
 
-pub returns : goal.returns
+pub returns-else-yes : goal.returns-else-yes
 unfolding added
-returns c = sym (ap (added c.args.set c.args.j) c.if-yes.false)
+returns-else-yes c = sym (ap (added c.args.set c.args.j) c.if-yes.false)

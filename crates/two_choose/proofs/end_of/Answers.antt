@@ -7,6 +7,6 @@ pub returns-then-gated : goal.returns-then-gated
 unfolding end_of
 returns-then-gated c = sym (ap (end_of c.args.block c.args.behind) c.if-gated.true)
 
-pub returns : goal.returns
+pub returns-else-gated : goal.returns-else-gated
 unfolding end_of
-returns c = sym (ap (end_of c.args.block c.args.behind) c.if-gated.false)
+returns-else-gated c = sym (ap (end_of c.args.block c.args.behind) c.if-gated.false)

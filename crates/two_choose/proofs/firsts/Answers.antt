@@ -1,4 +1,4 @@
-use Rattle.std.proofs.Common.{sym, subst, ◌∙◌, ℕ, eqb-true}
+use Rattle.std.proofs.Common.{subst, ℕ, eqb-true}
 use borrow.Author.Tests.{eqb-false}
 use Rattle.cube_math.specs.Masks.{at}
 use Rattle.two_math.specs.Loops.{Classing, classing_none, classing_done}
@@ -17,8 +17,8 @@ loop-todo-smaller c = fewer _ _ _ c.lowest-j.ensures.set c.flip-todo.ensures
 pub loop-todo-preserved : goal.loop-todo-preserved
 loop-todo-preserved c =
     classing_next _ _ _ c.loop-todo.invariant c.lowest-j.ensures.set c.add_if-r.ensures c.flip-todo.ensures
-    (λ t. class_new c.args.blocks c.lowest-j.result _ _ (λ j o. c.requires j (c.loop-todo.invariant.sub j o)) c.equals-same.ensures (sym c.common.ensures ∙ eqb-true _ 0 t))
-    (λ f. class_old c.args.blocks c.lowest-j.result _ _ (λ j o. c.requires j (c.loop-todo.invariant.sub j o)) c.equals-same.ensures (λ z. eqb-false _ 0 f (c.common.ensures ∙ z)))
+    (λ t. class_new c.args.blocks.now c.lowest-j.result _ _ (λ j o. c.requires j (c.loop-todo.invariant.sub j o)) c.equals-same.ensures (eqb-true _ 0 t))
+    (λ f. class_old c.args.blocks.now c.lowest-j.result _ _ (λ j o. c.requires j (c.loop-todo.invariant.sub j o)) c.equals-same.ensures (λ z. eqb-false _ 0 f z))
 
 pub returns : goal.returns
-returns c = classing_done (subst (λ (y : ℕ). Classing (at c.args.blocks) c.args.set y c.loop-todo.r) c.loop-todo-test.false c.loop-todo.invariant)
+returns c = classing_done (subst (λ (y : ℕ). Classing (at c.args.blocks.now) c.args.set y c.loop-todo.r) c.loop-todo-test.false c.loop-todo.invariant)

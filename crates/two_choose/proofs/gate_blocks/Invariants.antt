@@ -1,10 +1,6 @@
 -- `two_choose::gate_blocks` meets its contract. Assumes nothing.
-use Rattle.std.proofs.Common.{◌≤◌, ◌-◌}
 use Rattle.two_choose.specs.Doors.{Blocked}
 use Rattle.two_choose.proofs.gate_blocks.Given as goal
 
 abbrev pub invariant-loop-j : goal.invariant-loop-j
-invariant-loop-j l = (l.j ≤ 8) × Blocked l.blocks l.gates l.j l.r
-
-abbrev pub decreases-loop-j : goal.decreases-loop-j
-decreases-loop-j l = 8 - l.j
+invariant-loop-j l = Blocked l.blocks l.gates l.j l.r

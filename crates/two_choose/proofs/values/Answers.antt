@@ -20,4 +20,4 @@ pub loop-todo-preserved : goal.loop-todo-preserved
 loop-todo-preserved c = using_or _ _ _ _ c.loop-todo.invariant c.lowest-j.ensures.set refl c.power-r.ensures c.flip-todo.ensures
 
 pub returns : goal.returns
-returns c = using_done (subst (λ (y : ℕ). Using (λ j a. at c.args.vals j ≡ a) c.args.set y c.loop-todo.r) c.loop-todo-test.false c.loop-todo.invariant)
+returns c = using_done (subst (λ (y : ℕ). Using (λ j a. at c.args.vals.now j ≡ a) c.args.set y c.loop-todo.r) c.loop-todo-test.false c.loop-todo.invariant)

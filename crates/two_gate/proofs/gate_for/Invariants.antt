@@ -1,4 +1,4 @@
-use Rattle.std.proofs.Common.{ℕ, ◌+◌, ◌-◌, ◌≤◌, List, get_or}
+use Rattle.std.proofs.Common.{ℕ, ◌+◌, ◌≤◌, List, get_or}
 use Rattle.two_math.specs.Gates.{cand}
 use Rattle.two_gate.specs.Says.{Other, None}
 use Rattle.two_gate.proofs.gate_for.Given as goal
@@ -12,7 +12,4 @@ pub record Inv (m s0 k : ℕ) (blocks slots gates : List ℕ) (done j c : ℕ) :
   pub none : Fails m s0 k blocks slots gates done j c
 
 abbrev pub invariant-loop-c : goal.invariant-loop-c
-invariant-loop-c l = Inv l.m l.s0 l.k l.blocks l.slots l.gates l.done l.j l.c
-
-abbrev pub decreases-loop-c : goal.decreases-loop-c
-decreases-loop-c l = l.m + 1 - l.c
+invariant-loop-c l = Inv l.home.order l.home.block l.targets.count l.targets.blocks l.targets.slots l.gates.slots l.gates.gated l.j l.c

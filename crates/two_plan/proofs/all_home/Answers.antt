@@ -1,18 +1,13 @@
-use Rattle.std.proofs.Common.{sym, ◌∙◌, arith}
-use Rattle.two_plan.specs.Home.{homely_more, home_all, home_some}
+use Rattle.std.proofs.Common.{rules, ◌≡◌, ◌≢◌}
+use borrow.Author.Tests.{tests}
+use Rattle.std.proofs.lemmas.Iterator.{cases_from_all, YieldsList-from_slice}
+use Rattle.two_parts.specs.Two.{block_of}
+use Rattle.two_plan.specs.Home.{home_told}
 use Rattle.two_plan.proofs.all_home.Goals as goal
 
-pub loop-i-init : goal.loop-i-init
-loop-i-init c = (omega arith, λ j h. absurd (omega arith))
-
-pub block_of-requires : goal.block_of-requires
-block_of-requires c = c.requires
-
-pub returns-then-block_of-home : goal.returns-then-block_of-home
-returns-then-block_of-home c = home_some _ _ _ c.loop-i.i (omega arith) (λ e. c.if-block_of-home.true (c.block_of.ensures ∙ e ∙ sym c.block_of-home.ensures))
-
-pub loop-i-preserved : goal.loop-i-preserved
-loop-i-preserved c = (omega arith, homely_more _ _ c.args.targets.now _ c.loop-i.invariant.1 (sym c.block_of.ensures ∙ c.if-block_of-home.false ∙ c.block_of-home.ensures))
-
 pub returns : goal.returns
-returns c = home_all _ _ _ _ (omega arith) c.loop-i.invariant.1
+returns c =
+    let m = c.args.order.0 in
+    let home = c.block_of-home.result.0 in
+    home_told home _ c.block_of-home.ensures
+    (cases_from_all _ _ _ (λ x. block_of m x ≡ home) (λ x. block_of m x ≢ home) c.all.ensures.ran (YieldsList-from_slice c.args.targets.now cc) (λ x q k. search (rules, tests)) (λ x q k. search (rules, tests)))

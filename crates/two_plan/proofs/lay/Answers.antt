@@ -2,6 +2,7 @@
 use Rattle.std.proofs.Common.{refl, arith}
 use Rattle.two_plan.specs.Sound.{drawn-from, ring_ready, ring-drawn, trip, some_out, few, home_yes, home_no}
 use Rattle.two_plan.proofs.lay.Goals as goal
+use Rattle.two_plan.proofs.lay.Goals.{else-targets-m-via-then-targets-m+else-all_home, else-targets-m-via-else-targets-m}
 
 pub overflow_mul-targets : goal.overflow_mul-targets
 overflow_mul-targets c = omega (arith, c.requires.room)
@@ -28,13 +29,10 @@ pub returns-then-all_home : goal.returns-then-all_home
 returns-then-all_home c = drawn-from c.requires _ refl c.fill.ensures c.plan-then-all_home.ensures
 
 pub general-requires : goal.general-requires
-general-requires c = some_out c.requires _ refl c.fill.ensures c.if-m-eq1.false (home_no c.if-all_home.false c.all_home.ensures)
-
-pub returns-then-targets-m : goal.returns-then-targets-m
-returns-then-targets-m c = drawn-from c.requires _ refl c.fill.ensures c.general.ensures
-
-pub general-requires-2 : goal.general-requires-2
-general-requires-2 c = few c.requires _ refl c.fill.ensures c.if-m-eq1.false c.if-targets-m.false
+general-requires c = elim c.else-targets-m.branch [
+  | else-targets-m-via-then-targets-m+else-all_home w ↦ some_out c.requires _ refl c.fill.ensures c.if-m-eq1.false (home_no w.if-all_home.false w.all_home.ensures)
+  | else-targets-m-via-else-targets-m w ↦ few c.requires _ refl c.fill.ensures c.if-m-eq1.false w.if-targets-m.false
+]
 
 pub returns : goal.returns
-returns c = drawn-from c.requires _ refl c.fill.ensures c.general-2.ensures
+returns c = drawn-from c.requires _ refl c.fill.ensures c.general.ensures

@@ -28,17 +28,17 @@ bounds-out-at c = omega (arith, c.requires)
 
 pub write_block-p-requires : goal.write_block-p-requires
 write_block-p-requires c =
-    let blocks = round-blocks c.args.m _ _ _ c.requires.1 c.requires.2 c.requires.3 c.flip-x.ensures c.flip-y.ensures c.flip-z.ensures in
+    let blocks = round-blocks c.args.round.now.order _ _ _ c.requires.1 c.requires.2 c.requires.3 c.flip-x.ensures c.flip-y.ensures c.flip-z.ensures in
     (c.requires.0, blocks.0, c.requires.2, c.requires.3, simp length-set (omega (arith, c.requires)))
 
 pub write_block-q-requires : goal.write_block-q-requires
 write_block-q-requires c =
-    let blocks = round-blocks c.args.m _ _ _ c.requires.1 c.requires.2 c.requires.3 c.flip-x.ensures c.flip-y.ensures c.flip-z.ensures in
+    let blocks = round-blocks c.args.round.now.order _ _ _ c.requires.1 c.requires.2 c.requires.3 c.flip-x.ensures c.flip-y.ensures c.flip-z.ensures in
     (c.requires.0, blocks.1, c.requires.3, c.requires.2, omega (arith, c.requires.4, simp length-set at c.write_block-p.auto.out, entered_room c.write_block-p.ensures))
 
 pub write_block-r-requires : goal.write_block-r-requires
 write_block-r-requires c =
-    let blocks = round-blocks c.args.m _ _ _ c.requires.1 c.requires.2 c.requires.3 c.flip-x.ensures c.flip-y.ensures c.flip-z.ensures in
+    let blocks = round-blocks c.args.round.now.order _ _ _ c.requires.1 c.requires.2 c.requires.3 c.flip-x.ensures c.flip-y.ensures c.flip-z.ensures in
     let size = simp length-set at c.write_block-p.auto.out in
     (c.requires.0, blocks.2, c.requires.2, c.requires.3, omega (arith, c.requires.4, size, c.write_block-q.auto.out, entered_room c.write_block-p.ensures, entered_room c.write_block-q.ensures))
 

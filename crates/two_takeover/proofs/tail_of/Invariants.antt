@@ -5,7 +5,8 @@ use Rattle.two_takeover.specs.Tail.{Tailing}
 use Rattle.two_takeover.proofs.tail_of.Given as goal
 
 abbrev pub invariant-loop-who : goal.invariant-loop-who
-invariant-loop-who l = Tailing l.m l.k (at l.blocks) (at l.slots) (at l.gates) l.gated l.b l.enter l.to l.tail l.len l.here l.who
+invariant-loop-who l =
+    Tailing l.m l.targets.count (at l.targets.blocks) (at l.targets.slots) (at l.gates.slots) l.gates.gated l.b l.enter l.to l.slots l.len l.here
 
 abbrev pub decreases-loop-who : goal.decreases-loop-who
 decreases-loop-who l = rank l.to l.here
