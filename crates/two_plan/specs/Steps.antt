@@ -1,13 +1,11 @@
 -- Laying a fan (`lay_asked`, `lay_granted`), and the planner's steps: what was checked, room, the paths (`asked`, `plan_refused`, `plan_short`,
 -- `plan_laid`). Assumes nothing.
-use Rattle.std.specs.Prelude.{ℕ, ◌*◌, ◌≤◌, ◌≡◌, Bool, true, false, List, length}
+use Rattle.std.specs.Prelude.{ℕ, ◌*◌, ◌≤◌, ◌≡◌, Bool, true, false, List, Result, Ok, Err, ⊤, length}
 use Rattle.std.proofs.Common.{sym, ◌∙◌, subst}
 use Rattle.std.proofs.Math.Option.{Option, none}
 use Rattle.answers.specs.Told.{against}
 use Rattle.answers.specs.declared.Refusal.{Refusal}
 use Rattle.answers.specs.declared.Refusal.TheVariants.{NoRoom}
-use Rattle.answers.specs.declared.Checked.{Checked}
-use Rattle.answers.specs.declared.Checked.TheVariants as checked
 use Rattle.paths.specs.Mesh.{width}
 use Rattle.paths.specs.Lists.{laid-fan}
 use Rattle.requests.specs.Planned.{Planned, refusal, granted}
@@ -38,26 +36,26 @@ module _ (m s : ℕ) (targets places counts : List ℕ) where
 
   -- what it gives
   pub lay_granted : {o : Option Refusal} → o ≡ none → (size : ℕ) → size ≡ m → {places₁ counts₁ : List ℕ} → Drawn (two size) s targets places counts places₁ counts₁
-      → length places₁ ≡ length places → length counts₁ ≡ length counts → Planned o (two m) s targets places counts checked.Fine places₁ counts₁
+      → length places₁ ≡ length places → length counts₁ ≡ length counts → Planned o (two m) s targets places counts (Ok tt) places₁ counts₁
   lay_granted o size es {places₁} {counts₁} d₁ long long_counts =
       let d = subst (λ (y : ℕ). Drawn (two y) s targets places counts places₁ counts₁) es d₁ in
       granted (two m) s targets places counts places₁ counts₁ o (laid-fan (two m) s targets places₁ counts₁ d.paths d.fan d.laid) d.rest d.kept long long_counts
 
 -- ---- checked first
 
-module _ (m s : ℕ) (targets : List ℕ) (r : Checked) (e : against r ≡ request_against (kind_of TWO) m s targets false) where
+module _ (m s : ℕ) (targets : List ℕ) (r : Result ⊤ Refusal) (e : against r ≡ request_against (kind_of TWO) m s targets false) where
   e₂ : against r ≡ request_against twos m s targets false
   unfolding kind_of
   e₂ = e
 
-  pub fine : r ≡ checked.Fine → Fine twos m s targets
+  pub fine : r ≡ Ok tt → Fine twos m s targets
   fine f = checked_fine twos m s targets e₂ f
 
-  pub order_in : r ≡ checked.Fine → (1 ≤ m) × (m ≤ 5)
+  pub order_in : r ≡ Ok tt → (1 ≤ m) × (m ≤ 5)
   order_in f = known_bounds m (fine f).known
 
   -- what asking for room asks
-  pub short_ask : r ≡ checked.Fine → ((kind_of TWO).known m ≡ true) × (length targets ≤ ((kind_of TWO).mesh m).links)
+  pub short_ask : r ≡ Ok tt → ((kind_of TWO).known m ≡ true) × (length targets ≤ ((kind_of TWO).mesh m).links)
   unfolding kind_of
   short_ask f = ((fine f).known, (fine f).sound.few)
 
@@ -65,15 +63,15 @@ module _ (m s : ℕ) (targets : List ℕ) (r : Checked) (e : against r ≡ reque
     abbrev wanting : Bool
     wanting = short (two m) (length targets) (length places) (length counts)
 
-    pub plan_refused : {why : Refusal} → r ≡ checked.Refused why → Planned (request_against twos m s targets wanting) (two m) s targets places counts (checked.Refused why) places counts
+    pub plan_refused : {why : Refusal} → r ≡ Err why → Planned (request_against twos m s targets wanting) (two m) s targets places counts (Err why) places counts
     plan_refused f = refusal (two m) s targets places counts (sym (request_refused twos m s targets e₂ wanting f))
 
-    module _ {flag : Bool} (f : r ≡ checked.Fine) (w : flag ≡ short ((kind_of TWO).mesh m) (length targets) (length places) (length counts)) where
+    module _ {flag : Bool} (f : r ≡ Ok tt) (w : flag ≡ short ((kind_of TWO).mesh m) (length targets) (length places) (length counts)) where
       w₂ : flag ≡ wanting
       unfolding kind_of
       w₂ = w
 
-      pub plan_short : flag ≡ true → Planned (request_against twos m s targets wanting) (two m) s targets places counts (checked.Refused NoRoom) places counts
+      pub plan_short : flag ≡ true → Planned (request_against twos m s targets wanting) (two m) s targets places counts (Err NoRoom) places counts
       plan_short t = refusal (two m) s targets places counts (sym (request_short twos m s targets e₂ f w₂ t))
 
       pub asked : flag ≡ false → (size wide : ℕ) → size ≡ m → wide ≡ width ((kind_of TWO).mesh m) → Asked size s wide targets places counts
@@ -81,5 +79,5 @@ module _ (m s : ℕ) (targets : List ℕ) (r : Checked) (e : against r ≡ reque
       asked t size wide es ew = lay_asked m s targets places counts (fine f) (sym w₂ ∙ t) size wide es ew
 
       pub plan_laid : flag ≡ false → (size : ℕ) → size ≡ m → {places₁ counts₁ : List ℕ} → Drawn (two size) s targets places counts places₁ counts₁ → length places₁ ≡ length places
-          → length counts₁ ≡ length counts → Planned (request_against twos m s targets wanting) (two m) s targets places counts checked.Fine places₁ counts₁
+          → length counts₁ ≡ length counts → Planned (request_against twos m s targets wanting) (two m) s targets places counts (Ok tt) places₁ counts₁
       plan_laid t size es d long long_counts = lay_granted m s targets places counts (sym (request_granted twos m s targets e₂ f w₂ t)) size es d long long_counts

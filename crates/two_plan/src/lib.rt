@@ -10,7 +10,7 @@ ghost use Rattle.mesh.specs.Kinds.{twos};
 ghost use Rattle.mesh.specs.Says.{request_against, short};
 ghost use Rattle.requests.specs.Planned.{Planned};
 
-use answers::{Checked, Refusal};
+use answers::Refusal;
 use mesh::Mesh;
 use paths::FILLER;
 use two::Order;
@@ -52,19 +52,16 @@ pub fn plan(
     targets: &[u64],
     places: &mut [u64],
     counts: &mut [u64],
-) -> Checked
+) -> Result<(), Refusal>
     ensures { Planned (request_against twos order.0 source targets.now (short (two order.0) (length targets.now) (length places.old) (length counts.old))) (two order.0) source targets.now places.old counts.old result places.new counts.new }
 {
     let mesh = Mesh {
         kind: Mesh::TWO,
         size: order.0,
     };
-    let checked = mesh::request(mesh, source, targets);
-    if let Checked::Refused(why) = checked {
-        return Checked::Refused(why);
-    }
+    mesh::request(mesh, source, targets)?;
     if mesh::short(mesh, targets.len(), places.len(), counts.len()) {
-        return Checked::Refused(Refusal::NoRoom);
+        return Err(Refusal::NoRoom);
     }
     lay(
         order.0 as u32,
@@ -74,5 +71,5 @@ pub fn plan(
         places,
         counts,
     );
-    Checked::Fine
+    Ok(())
 }
