@@ -14,15 +14,17 @@ ghost use Rattle.columns.specs.Needs.{Copied, Marked, Filled};
 ghost use Rattle.columns.specs.Says.{bundle_paths, ahead, marks, Columns};
 
 use mesh::Mesh;
+use requests::Facts;
 
 // How many paths a bundle has: as many as a relay has links, and none where there is no such mesh.
 pub fn bundle_paths(mesh: Mesh) -> usize
     ensures { result ≡ bundle_paths (kind_of mesh.kind) mesh.size }
 {
     if mesh.known() {
-        return mesh::links_in(mesh) as usize;
+        mesh.links_in() as usize
+    } else {
+        0
     }
-    0
 }
 
 // Whether the pair a, b is u, v in either order.

@@ -42,7 +42,8 @@ pub fn three(
     let short = few(lacking, targets.len(), ends.len(), hops.len(), wholes.len());
     judge::judge_with(mesh, source, targets, places, counts, short)?;
     let w = mesh::places_in(mesh) as usize;
-    Ok(columns::fill(
+    let count = columns::fill(
         w, targets, places, counts, stopped, cuts, ends, hops, wholes,
-    ))
+    );
+    Ok(count)
 }

@@ -12,7 +12,7 @@ returns-then-known c =
     let a = c.args in
     c.links_in.ensures ∙ ap (λ (b : Bool). pick {A = ℕ} b (mesh_of a.mesh.kind a.mesh.size).links 0) (sym c.if-known.true ∙ c.known.ensures)
 
-pub returns : goal.returns
-returns c =
+pub returns-else-known : goal.returns-else-known
+returns-else-known c =
     let a = c.args in
     ap (λ (b : Bool). pick {A = ℕ} b (mesh_of a.mesh.kind a.mesh.size).links 0) (sym c.if-known.false ∙ c.known.ensures)

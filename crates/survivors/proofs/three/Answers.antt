@@ -34,8 +34,8 @@ places_in-w-requires c =
     (request_fine (kind_of a.mesh.kind) a.mesh.size a.source a.targets.now
     (judged_passed a.lacking q a.places.now a.counts.now (failed a.stopped.now a.cuts.now) a.ends.now a.hops.now a.wholes.now clean).faultless).known
 
-pub fill-requires : goal.fill-requires
-fill-requires c =
+pub fill-count-requires : goal.fill-count-requires
+fill-count-requires c =
     let a = c.args in
     let q = asked a.mesh.kind a.mesh.size a.source a.targets.now in
     let clean = told q a.places.now a.counts.now a.ends.now a.hops.now a.wholes.now a.lacking c.in_ok-judge_with.ensures c.few-short.ensures in
@@ -46,4 +46,4 @@ returns c =
     let a = c.args in
     let q = asked a.mesh.kind a.mesh.size a.source a.targets.now in
     let clean = told q a.places.now a.counts.now a.ends.now a.hops.now a.wholes.now a.lacking c.in_ok-judge_with.ensures c.few-short.ensures in
-    survived a.lacking q a.places.now a.counts.now (failed a.stopped.now a.cuts.now) a.ends.now a.hops.now a.wholes.now clean c.places_in-w.ensures refl c.fill.ensures
+    survived a.lacking q a.places.now a.counts.now (failed a.stopped.now a.cuts.now) a.ends.now a.hops.now a.wholes.now clean c.places_in-w.ensures refl c.fill-count.ensures
