@@ -159,7 +159,12 @@ abbrev pub WordWithin : List ℕ → rust.Option (ℕ × ℕ) → Type 0
 WordWithin text (Some (kind, e)) = e ≤ length text
 WordWithin text None = 0 ≤ length text
 
+-- the kind of the first word, and how many bytes the word has
+abbrev pub word_of : List ℕ → rust.Option (ℕ × ℕ)
+word_of text = pick (begins cube_word text) (Some (CUBE, 4)) (pick (begins two_word text) (Some (TWO, 3)) None)
+
 pub record ReadWord (text : List ℕ) (r : rust.Option (ℕ × ℕ)) : Type 0 where
+  pub is : r ≡ word_of text
   pub same : word_told text r ≡ parse text
   pub within : WordWithin text r
 
@@ -167,9 +172,16 @@ module _ (text : List ℕ) where
   begun : (ws : List ℕ) → begins ws text ≡ true → length ws ≤ length text
   begun ws e = omega (arith, ap length (begins_sound ws text e), length-append ws (drop (length ws) text))
 
+  cube_is : begins cube_word text ≡ true → Some (CUBE, 4) ≡ word_of text
+  cube_is e = ap (λ (x : Bool). pick x (Some (CUBE, 4)) (pick (begins two_word text) (Some (TWO, 3)) None)) (sym e)
+
+  not_cube : begins cube_word text ≡ false → pick (begins two_word text) (Some (TWO, 3)) None ≡ word_of text
+  not_cube e = ap (λ (x : Bool). pick x (Some (CUBE, 4)) (pick (begins two_word text) (Some (TWO, 3)) None)) (sym e)
+
   pub word-cube : begins cube_word text ≡ true → ReadWord text (Some (CUBE, 4))
   unfolding parse
   word-cube e = record {
+    is = cube_is e;
     same = ap (λ (x : Bool). pick x (after CUBE (drop 4 text)) (pick (begins two_word text) (after TWO (drop 3 text)) none)) (sym e);
     within = begun cube_word e;
   }
@@ -179,7 +191,7 @@ module _ (text : List ℕ) where
   no_cube e = ap (λ (x : Bool). pick x (after CUBE (drop 4 text)) (pick (begins two_word text) (after TWO (drop 3 text)) none)) e
 
   pub word_two : begins cube_word text ≡ false → begins two_word text ≡ true → ReadWord text (Some (TWO, 3))
-  word_two c e = record { same = sym (no_cube c ∙ ap (λ (x : Bool). pick x (after TWO (drop 3 text)) none) e); within = begun two_word e }
+  word_two c e = record { is = ap (λ (x : Bool). pick x (Some (TWO, 3)) None) (sym e) ∙ not_cube c; same = sym (no_cube c ∙ ap (λ (x : Bool). pick x (after TWO (drop 3 text)) none) e); within = begun two_word e }
 
   pub word-other : begins cube_word text ≡ false → begins two_word text ≡ false → ReadWord text None
-  word-other c e = record { same = sym (no_cube c ∙ ap (λ (x : Bool). pick x (after TWO (drop 3 text)) none) e); within = omega arith }
+  word-other c e = record { is = ap (λ (x : Bool). pick x (Some (TWO, 3)) None) (sym e) ∙ not_cube c; same = sym (no_cube c ∙ ap (λ (x : Bool). pick x (after TWO (drop 3 text)) none) e); within = omega arith }
