@@ -1,18 +1,18 @@
 -- A book closed up. Of its bytes the live pieces are kept, one after another (`kept`), by the lengths that they tell; a start becomes how many live bytes stood before it (`slid`).
 -- Of bytes that are pieces that is the live ones of them (`kept-joined`), with their index (`placed-lives`), and every key has the sheet that it had (`sheet-lives`). Assumes nothing.
-use Rattle.std.specs.Prelude.{ℕ, zero, suc, ◌+◌, ◌-◌, ◌*◌, ◌/◌, ◌%◌, ◌≤◌, ◌<◌, min, ◌≡◌, Bool, true, false, ◌⊎◌, ◌≢◌, ltb, take, drop}
+use Rattle.std.specs.Prelude.{ℕ, zero, suc, ◌+◌, ◌-◌, ◌≤◌, ◌<◌, ◌≡◌, Bool, true, false, ◌⊎◌, ◌≢◌, ltb, take, drop}
 use Rattle.std.proofs.Math.Path.{refl, sym, ap}
-use Rattle.std.proofs.Common.{ap₂, ◌∙◌, subst, inl, inr, ⊎_elim, arith, length-append, length-take, length-drop, take_at, drop_at, length-take-le}
-use Rattle.std.proofs.Math.Option.{Option, none, some}
+use Rattle.std.proofs.Common.{ap₂, ◌∙◌, subst, inl, inr, ⊎_elim, arith, length-append, length-take, length-drop, take_at, drop_at}
+use Rattle.std.proofs.Math.Option.{Option, some}
 use mathlib.Core.List.{List, [], ◌∷◌, ◌++◌, append_assoc, append-nil, map}
 use Rattle.std.proofs.Math.ListN.{length}
 use Rattle.std.proofs.Math.Seq.{take-append_seam}
 use borrow.Author.Tests.{ltb-true, ltb-false, lt-ltb, le-ltb}
 use Rattle.scan.specs.Scan.{pick}
-use Rattle.scan.specs.Laws.{true-or, true-false}
+use Rattle.scan.specs.Laws.{true-or}
 use Rattle.paths.specs.Lists.{In}
 use Rattle.sheet.specs.Format.{HEAD}
-use Rattle.book.specs.Ordered.{STARTS, entry, key_of, start_of, insert, Rising, in_insert, insert_in}
+use Rattle.book.specs.Ordered.{STARTS, entry, key_of, start_of, insert, Rising, insert_in}
 use Rattle.book.specs.Pieces.{length_of, live, key_at, of, joined, placed, sheet_of}
 use Rattle.book.specs.Stands.{Piece, Sound, Stands, length_front, live-front}
 use Rattle.book.specs.Removed.{gone, mark, gone-live, mark-here, mark_later, beyond}

@@ -1,8 +1,8 @@
 -- A book answers as the plain map does, over every sequence of calls from an empty book (`book_follows`), and after every one of them its index is the one worked out afresh
 -- from its bytes (`index-afresh`). By induction: its bytes are pieces of which the map has the live ones (`Kept`), and one call keeps that (`kept_step`). Assumes nothing.
-use Rattle.std.specs.Prelude.{ℕ, zero, suc, ◌+◌, ◌-◌, ◌≤◌, ◌<◌, min, ◌≡◌, Bool, ◌⊎◌, eqb, get_or, set, take, drop}
+use Rattle.std.specs.Prelude.{ℕ, ◌+◌, ◌-◌, ◌≤◌, ◌<◌, ◌≡◌, Bool, ◌⊎◌, eqb, get_or, set, take}
 use Rattle.std.proofs.Math.Path.{refl, sym, ap, ap₂, subst}
-use Rattle.std.proofs.Common.{◌∙◌, arith, length-append, ltb-false, le-ltb, leb-false, eq-eqb}
+use Rattle.std.proofs.Common.{◌∙◌, arith, length-append, ltb-false, le-ltb, leb-false}
 use Rattle.std.proofs.Math.Bool.{true, false}
 use Rattle.std.proofs.Math.Logic.{inl, inr, ⊎_elim}
 use Rattle.std.proofs.Math.Option.{Option, none, some}
@@ -17,20 +17,19 @@ use Rattle.sheet.specs.declared.Flaw.{Flaw}
 use Rattle.book_parts.specs.Moved.{opened, closed}
 use Rattle.book.specs.Ordered.{entry, start_of}
 use Rattle.book.specs.Pieces.{key, key_at, of, joined, placed, sheet_of, afresh}
-use Rattle.book.specs.Sheets.{against, Keyed, accepted}
+use Rattle.book.specs.Sheets.{against, accepted}
 use Rattle.book.specs.Stands.{sheet-more, joined-more, or_else, afresh-joined}
 use Rattle.book.specs.Removed.{VERSIONED, mark, sheet-mark-other}
 use Rattle.book.specs.Closed.{lives, lives_more, lives_twice, lives-mark, sheet-lives}
 use Rattle.book.specs.Says.{capacity, limit, book_of, if_no_room, crammed, add_says, add_bytes, add_index, close_book, close_bytes, close_index, is_key, count, spot, there, held_at, add_by, if_added, short, full, end_says, end_bytes, end_index, find_by, remove_by, remove_bytes_by, remove_index_by, seeks, find_says, remove_says, remove_bytes, remove_index}
 use Rattle.book.specs.Told.{added_number, added_path, added_place, added_book, removed_number, removed_book}
-use Rattle.book.specs.Held.{Held, few, within, lent, used_is, entries_are, count_is, Seen, Unseen, Same, of-same, same_of, is_keyed, lookup, unkeyed}
+use Rattle.book.specs.Held.{Held, count_is, Seen, Unseen, Same, of-same, is_keyed, lookup, unkeyed}
 use Rattle.book.specs.Steps.{held-add, held-remove, held_close, closed-bytes, closed-used, lives_long, seen_bytes, seeks-seen, sheet-gone}
-use Rattle.book.specs.Plain.{Call, add, find, remove, close, Answer, tell, number, Map, with, less, Plain, empty, has, add_told, settled, find_told, remove_told, if_some, plain_answer, plain_after, plain_tells, plain_end, State, found_told, answer, step, tells, after, fresh}
+use Rattle.book.specs.Plain.{Call, add, find, remove, close, Answer, tell, number, with, less, Plain, empty, has, add_told, settled, find_told, remove_told, if_some, plain_answer, plain_after, plain_tells, plain_end, State, found_told, answer, step, tells, after, fresh}
 use Rattle.book.specs.declared.Book.{Book}
-use Rattle.book.specs.declared.Added.{Added}
-use Rattle.book.specs.declared.Added.TheVariants as added
-use Rattle.book.specs.declared.Sought.{Sought}
-use Rattle.book.specs.declared.Sought.TheVariants as sought
+use Rattle.book.specs.Types.{Added, MaybeSought, sought_at}
+use Rattle.std.specs.Prelude.{Ok, Err, None}
+use Rattle.book.specs.declared.NotAdded.TheVariants as added
 
 -- the map has the live sheets of the book's pieces
 pub record Kept (places room : ℕ) (m : Plain) (b : Book) (bytes index : List ℕ) : Type 0 where
@@ -79,7 +78,7 @@ settled_same x y none false false v w h = ap (λ (b : Bool). settled none false 
 by_tests : {A : Type 0} (f : Option Flaw → Bool → Bool → Bool → A) {o : Option Flaw} {t u v : Bool} → o ≡ none → t ≡ false → u ≡ false → v ≡ true → f o t u v ≡ f none false false true
 by_tests f {o} {t} {u} {v} a b c d = ap₂ (λ (p : Option Flaw) (q : Bool). f p q u v) a b ∙ ap₂ (f none false) c d
 
-roomless : {A : Type 0} (p q : A) {a : Added} → a ≡ added.NoRoom → if_no_room a p q ≡ p
+roomless : {A : Type 0} (p q : A) {a : Added} → a ≡ (Err added.NoRoom) → if_no_room a p q ≡ p
 roomless p q e = ap (λ (r : Added). if_no_room r p q) e
 
 no_flaw : {A : Type 0} {f : Flaw} → ◌≡◌ {A = Option Flaw} none (some f) → A
@@ -190,7 +189,7 @@ module _ {places room : ℕ} {m : Plain} {b : Book} {bytes index : List ℕ} (k 
         (subst (λ (c : List ℕ). Kept places room (settled (against S) x' y z map_with m) (settled (against S) x y z new b) (settled (against S) x y z bytes-with bytes) c) (sym (left_by (against S) x y z new index-with index)) done)))
 
     -- which answer it is
-    end-flawed : {f : Flaw} → against S ≡ some f → end_says b bytes index S ≡ added.Flawed f
+    end-flawed : {f : Flaw} → against S ≡ some f → end_says b bytes index S ≡ (Err (added.Flawed f))
     unfolding end_says
     end-flawed e = ap (λ (o : Option Flaw). add_by o (there b index (key_at S)) (full b index) (short b bytes S) (book_of (b.used + length S) (count b index + 1))) e
 
@@ -201,17 +200,17 @@ module _ {places room : ℕ} {m : Plain} {b : Book} {bytes index : List ℕ} (k 
         ap₂ (λ (o : Option Flaw) (c : Bool). add_by o c (full b index) (short b bytes S) (book_of (b.used + length S) (count b index + 1))) e (t_is e ∙ x)
         ∙ ap₂ (λ (c d : Bool). add_by none t c d (book_of (b.used + length S) (count b index + 1))) (u_is ∙ y) (v_is ∙ z)
 
-    end-there : against S ≡ none → has (m.at (kind_at S) (size_at S) (source_at S)) ≡ true → end_says b bytes index S ≡ added.There
+    end-there : against S ≡ none → has (m.at (kind_at S) (size_at S) (source_at S)) ≡ true → end_says b bytes index S ≡ (Err added.There)
     end-there e x = end_by e x refl refl
 
-    end-full : against S ≡ none → has (m.at (kind_at S) (size_at S) (source_at S)) ≡ false → leb places m.entries ≡ true → end_says b bytes index S ≡ added.Full
+    end-full : against S ≡ none → has (m.at (kind_at S) (size_at S) (source_at S)) ≡ false → leb places m.entries ≡ true → end_says b bytes index S ≡ (Err added.Full)
     end-full e x y = end_by e x y refl
 
-    end_short : against S ≡ none → has (m.at (kind_at S) (size_at S) (source_at S)) ≡ false → leb places m.entries ≡ false → ltb room (b.used + length S) ≡ true → end_says b bytes index S ≡ added.NoRoom
+    end_short : against S ≡ none → has (m.at (kind_at S) (size_at S) (source_at S)) ≡ false → leb places m.entries ≡ false → ltb room (b.used + length S) ≡ true → end_says b bytes index S ≡ (Err added.NoRoom)
     end_short e x y z = end_by e x y z
 
     end_done : against S ≡ none → has (m.at (kind_at S) (size_at S) (source_at S)) ≡ false → leb places m.entries ≡ false → ltb room (b.used + length S) ≡ false
-        → end_says b bytes index S ≡ added.Done (book_of (b.used + length S) (count b index + 1))
+        → end_says b bytes index S ≡ Ok (book_of (b.used + length S) (count b index + 1))
     end_done e x y z = end_by e x y z
 
     -- with room behind the last sheet there is room
@@ -235,10 +234,10 @@ module _ {places room : ℕ} {m : Plain} {b : Book} {bytes index : List ℕ} (k 
     -- what is sought is there as the map has it, or is missing as there
     pub record Hitting : Type 0 where
       pub seen : Seen k.held kind size source
-      pub sought_at : seeks b bytes index kind size source ≡ sought.At (spot b index (key kind size source)) seen.start (length seen.piece)
+      pub sought_at : seeks b bytes index kind size source ≡ sought_at (spot b index (key kind size source)) seen.start (length seen.piece)
 
     pub record Missing : Type 0 where
-      pub none_sought : seeks b bytes index kind size source ≡ sought.Missing
+      pub none_sought : seeks b bytes index kind size source ≡ None
       pub none_found : sheet_of kind size source ps ≡ none
 
     sought_or : Hitting ⊎ Missing
@@ -250,12 +249,12 @@ module _ {places room : ℕ} {m : Plain} {b : Book} {bytes index : List ℕ} (k 
             ⊎_elim
             (λ (s : Seen k.held kind size source). inl (record { seen = s; sought_at = seeks-seen k.held kind size source s y }))
             (λ (s : Unseen k.held kind size source). inr (record {
-              none_sought = ap₂ (λ (a c : Bool). pick a (pick c (held_at bytes (spot b index (key kind size source)) (start_of (get_or index (spot b index (key kind size source)) 0))) sought.Missing) sought.Missing) y s.not_there;
+              none_sought = ap₂ (λ (a c : Bool). pick a (pick c (held_at bytes (spot b index (key kind size source)) (start_of (get_or index (spot b index (key kind size source)) 0))) None) None) y s.not_there;
               none_found = s.none_found;
             }))
             (lookup k.held kind size source (is_keyed kind size source y))
         go (inr n) = inr (record {
-          none_sought = ap (λ (a : Bool). pick a (pick (there b index (key kind size source)) (held_at bytes (spot b index (key kind size source)) (start_of (get_or index (spot b index (key kind size source)) 0))) sought.Missing) sought.Missing) n;
+          none_sought = ap (λ (a : Bool). pick a (pick (there b index (key kind size source)) (held_at bytes (spot b index (key kind size source)) (start_of (get_or index (spot b index (key kind size source)) 0))) None) None) n;
           none_found = unkeyed k.held kind size source n;
         })
 
@@ -263,19 +262,19 @@ module _ {places room : ℕ} {m : Plain} {b : Book} {bytes index : List ℕ} (k 
     unfolding answer plain_answer find_says
     find-told = ⊎_elim
         (λ (w : Hitting).
-        ap (λ (s : Sought). found_told bytes (find_by s)) w.sought_at
+        ap (λ (s : MaybeSought). found_told bytes (find_by s)) w.sought_at
         ∙ ap (tell 0 0 0) (seen_bytes k.held kind size source w.seen)
         ∙ sym (ap find_told (k.at_is kind size source ∙ w.seen.found)))
-        (λ (w : Missing). ap (λ (s : Sought). found_told bytes (find_by s)) w.none_sought ∙ sym (ap find_told (k.at_is kind size source ∙ w.none_found)))
+        (λ (w : Missing). ap (λ (s : MaybeSought). found_told bytes (find_by s)) w.none_sought ∙ sym (ap find_told (k.at_is kind size source ∙ w.none_found)))
         sought_or
 
     remove-told : answer (record { head = b; bytes = bytes; index = index }) (remove kind size source) ≡ plain_answer places room m (remove kind size source)
     unfolding answer plain_answer remove_says
     remove-told = ⊎_elim
         (λ (w : Hitting).
-        ap (λ (s : Sought). number (removed_number (remove_by b.used (count b index) s))) w.sought_at ∙ sym (ap remove_told (k.at_is kind size source ∙ w.seen.found)))
+        ap (λ (s : MaybeSought). number (removed_number (remove_by b.used (count b index) s))) w.sought_at ∙ sym (ap remove_told (k.at_is kind size source ∙ w.seen.found)))
         (λ (w : Missing).
-        ap (λ (s : Sought). number (removed_number (remove_by b.used (count b index) s))) w.none_sought ∙ sym (ap remove_told (k.at_is kind size source ∙ w.none_found)))
+        ap (λ (s : MaybeSought). number (removed_number (remove_by b.used (count b index) s))) w.none_sought ∙ sym (ap remove_told (k.at_is kind size source ∙ w.none_found)))
         sought_or
 
     -- the map without the sheet
@@ -312,11 +311,11 @@ module _ {places room : ℕ} {m : Plain} {b : Book} {bytes index : List ℕ} (k 
     unfolding plain_after remove_says remove_bytes remove_index
     kept-remove = ⊎_elim
         (λ (w : Hitting).
-        subst (λ (s : Sought). Kept places room (if_some (m.at kind size source) map-less m) (removed_book (remove_by b.used (count b index) s) b) (remove_bytes_by bytes s) (remove_index_by index (count b index) s)) (sym w.sought_at)
+        subst (λ (s : MaybeSought). Kept places room (if_some (m.at kind size source) map-less m) (removed_book (remove_by b.used (count b index) s) b) (remove_bytes_by bytes s) (remove_index_by index (count b index) s)) (sym w.sought_at)
         (subst (λ (r : Option (List ℕ)). Kept places room (if_some r map-less m) (book_of b.used (count b index - 1)) (set bytes (w.seen.start + VERSIONED) 0) (closed index (spot b index (key kind size source)) (count b index)))
         (sym (k.at_is kind size source ∙ w.seen.found)) (kept_less w.seen)))
         (λ (w : Missing).
-        subst (λ (s : Sought). Kept places room (if_some (m.at kind size source) map-less m) (removed_book (remove_by b.used (count b index) s) b) (remove_bytes_by bytes s) (remove_index_by index (count b index) s)) (sym w.none_sought)
+        subst (λ (s : MaybeSought). Kept places room (if_some (m.at kind size source) map-less m) (removed_book (remove_by b.used (count b index) s) b) (remove_bytes_by bytes s) (remove_index_by index (count b index) s)) (sym w.none_sought)
         (subst (λ (r : Option (List ℕ)). Kept places room (if_some r map-less m) b bytes index) (sym (k.at_is kind size source ∙ w.none_found)) k))
         sought_or
 
@@ -380,15 +379,15 @@ module _ {places room : ℕ} {m : Plain} {b : Book} {bytes index : List ℕ} (k 
         (settled_same (map_with k S) m (against S) x' y' (ltb room (b.used + length S)) (ltb room (m.used + length S)) same) (kept-end k S))
 
   -- no room with the live sheets alone
-  came-full : end_says b bytes index S ≡ added.NoRoom → against S ≡ none → x' ≡ false → y' ≡ false → crammed b bytes S ≡ true → Came
+  came-full : end_says b bytes index S ≡ (Err added.NoRoom) → against S ≡ none → x' ≡ false → y' ≡ false → crammed b bytes S ≡ true → Came
   unfolding add_says add_bytes add_index
   came-full e r x y w =
       let z : ltb room (m.used + length S) ≡ true = sym crammed_is ∙ w in
-      came_as added.NoRoom bytes index (roomless _ _ e ∙ ap (λ (c : Bool). pick c added.NoRoom (end_says (close_book b bytes index) (close_bytes b bytes index) (close_index b bytes index) S)) w)
+      came_as (Err added.NoRoom) bytes index (roomless _ _ e ∙ ap (λ (c : Bool). pick c (Err added.NoRoom) (end_says (close_book b bytes index) (close_bytes b bytes index) (close_index b bytes index) S)) w)
       (roomless _ _ e ∙ ap (λ (c : Bool). pick c bytes (end_bytes (close_book b bytes index) (close_bytes b bytes index) (close_index b bytes index) S)) w) (roomless _ _ e ∙ ap (λ (c : Bool). pick c index (end_index (close_book b bytes index) (close_bytes b bytes index) (close_index b bytes index) S)) w)
       (sym (by_tests (add_told) r x y z)) (subst (λ (n : Plain). Kept places room n b bytes index) (sym (by_tests (λ o t u v. settled o t u v (map_with k S) m) r x y z)) k)
 
-  came-closed : end_says b bytes index S ≡ added.NoRoom → against S ≡ none → x' ≡ false → y' ≡ false → crammed b bytes S ≡ false → Came
+  came-closed : end_says b bytes index S ≡ (Err added.NoRoom) → against S ≡ none → x' ≡ false → y' ≡ false → crammed b bytes S ≡ false → Came
   unfolding add_says add_bytes add_index
   came-closed e r x y w =
       let k' = kept_close k in
@@ -398,7 +397,7 @@ module _ {places room : ℕ} {m : Plain} {b : Book} {bytes index : List ℕ} (k 
       let done = end_done k' S r x y (z ∙ sym crammed_is ∙ w) in
       let a' = end_says b' (close_bytes b bytes index) (close_index b bytes index) S in
       came_as a' (end_bytes b' (close_bytes b bytes index) (close_index b bytes index) S) (end_index b' (close_bytes b bytes index) (close_index b bytes index) S)
-      (roomless _ _ e ∙ ap (λ (c : Bool). pick c added.NoRoom a') w)
+      (roomless _ _ e ∙ ap (λ (c : Bool). pick c (Err added.NoRoom) a') w)
       (roomless _ _ e ∙ ap (λ (c : Bool). pick c bytes (end_bytes b' (close_bytes b bytes index) (close_index b bytes index) S)) w)
       (roomless _ _ e ∙ ap (λ (c : Bool). pick c index (end_index b' (close_bytes b bytes index) (close_index b bytes index) S)) w)
       (end-told k' S ∙ ap (add_told (against S) x' y') z)

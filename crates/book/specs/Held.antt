@@ -1,7 +1,7 @@
 -- A book whose bytes are pieces, and whose index is theirs (`Held`). A key is looked up in it by its map (`lookup`): what the search finds is the sheet that the map has (`Seen`), and
 -- where it finds none there is none (`Unseen`). Assumes nothing.
-use Rattle.std.specs.Prelude.{ℕ, zero, suc, ◌+◌, ◌-◌, ◌*◌, ◌/◌, ◌%◌, ◌≤◌, ◌<◌, min, ◌≡◌, refl, Bool, true, false, not, ◌⊎◌, ◌≢◌, List, [], ◌∷◌, ◌++◌, eqb, ltb, length, get_or, take}
-use Rattle.std.proofs.Common.{sym, ap₂, ◌∙◌, subst, inl, inr, ⊎_elim, arith, get_or-take, length-take-le, ltb-true, ltb-false, lt-ltb, le-ltb, eqb-true, eq-eqb, ne_eqb}
+use Rattle.std.specs.Prelude.{ℕ, zero, suc, ◌+◌, ◌*◌, ◌≤◌, ◌<◌, ◌≡◌, refl, Bool, true, false, ◌⊎◌, ◌≢◌, List, eqb, ltb, length, get_or, take}
+use Rattle.std.proofs.Common.{sym, ap₂, ◌∙◌, subst, inl, inr, arith, get_or-take, length-take-le, ltb-true, ltb-false, lt-ltb, le-ltb, eqb-true, eq-eqb, ne_eqb}
 use Rattle.std.proofs.Math.Path.{ap}
 use Rattle.std.proofs.Math.Option.{Option, none, some}
 use Rattle.scan.specs.Scan.{pick}
@@ -9,13 +9,12 @@ use Rattle.scan.specs.Laws.{true-or, true-false}
 use Rattle.paths.specs.Lists.{In}
 use Rattle.sheet.specs.Format.{kind_at, size_at, source_at}
 use Rattle.book_parts.specs.Place.{place}
-use Rattle.book.specs.Ordered.{STARTS, entry, key_of, start_of, below, Rising, rising_at, get_d_in, below_is, hit, Hit, hit-true, missed, same_key}
+use Rattle.book.specs.Ordered.{STARTS, entry, key_of, below, Rising, get_d_in, hit, Hit, hit-true, missed, same_key}
 use Rattle.book.specs.Pieces.{SOURCES, live, key, key_at, of, joined, placed, sheet_of}
-use Rattle.book.specs.Sheets.{against, Keyed, Sheet, accepted}
-use Rattle.book.specs.Stands.{Piece, Sound, Stands, Owner, placed_in, in_placed, stands_within, stands_sound, stands_same, sheet-some, sheet-none}
-use Rattle.book.specs.Stands as stands
+use Rattle.book.specs.Sheets.{Keyed, accepted}
+use Rattle.book.specs.Stands.{Sound, Stands, Owner, placed_in, in_placed, stands_within, stands_sound, stands_same, sheet-some, sheet-none}
 use Rattle.book.specs.Searched.{search_below, search_hit}
-use Rattle.book.specs.Says.{LIMIT, MOST, limit, capacity, is_key, count, spot, there}
+use Rattle.book.specs.Says.{LIMIT, limit, capacity, is_key, count, spot, there}
 use Rattle.book.specs.declared.Book.{Book}
 
 -- ---- kinds, sizes and sources as keys

@@ -1,4 +1,5 @@
 -- Books of sheets.
+pub mod Types
 pub mod Ordered
 pub mod Pieces
 pub mod Sheets

@@ -1,6 +1,6 @@
 -- A book opened again from its used bytes alone: piece by piece, each live one that is accepted put into an index (`open_from`). A piece that is none, or whose key is there already, is told
 -- with its start, and so is an index that is full. Assumes nothing.
-use Rattle.std.specs.Prelude.{ℕ, zero, suc, ◌+◌, Bool, true, false, List, [], ◌∷◌, eqb, ltb, leb, length, take, drop}
+use Rattle.std.specs.Prelude.{ℕ, zero, suc, ◌+◌, List, [], ◌∷◌, eqb, ltb, leb, length, take, drop}
 use Rattle.std.proofs.Math.Option.{Option, none, some}
 use Rattle.std.proofs.lemmas.List.Edits.{sets}
 use Rattle.scan.specs.Scan.{pick}
@@ -10,10 +10,10 @@ use Rattle.book.specs.Ordered.{entry, insert, below, hit}
 use Rattle.book.specs.Pieces.{length_of, live, key_at}
 use Rattle.book.specs.Sheets.{against}
 use Rattle.book.specs.Says.{LIMIT, capacity, book_of}
-use Rattle.book.specs.declared.Opened.{Opened}
-use Rattle.book.specs.declared.Opened.TheVariants as opened
-use Rattle.book.specs.declared.Entered.{Entered}
-use Rattle.book.specs.declared.Entered.TheVariants as entered
+use Rattle.book.specs.Types.{Entered, Opened}
+use Rattle.std.specs.Prelude.{Ok, Err}
+use Rattle.book.specs.declared.NotOpened.TheVariants as opened
+use Rattle.book.specs.declared.NotEntered.TheVariants as entered
 
 -- n where nothing stands against a sheet, else 0
 abbrev pub fine_length : Option Flaw → ℕ → ℕ
@@ -35,8 +35,8 @@ piece_length at l =
 unfoldable pub enters : (places : ℕ) (l index : List ℕ) → Entered
 enters places l index =
     pick (live l)
-    (pick (hit (key_at l) index (below (entry (key_at l) 0) index)) entered.Again (pick (leb places (length index)) entered.Full (entered.More (length index + 1))))
-    (entered.More (length index))
+    (pick (hit (key_at l) index (below (entry (key_at l) 0) index)) (Err entered.Again) (pick (leb places (length index)) (Err entered.Full) (Ok (length index + 1))))
+    (Ok (length index))
 
 unfoldable pub enters_index : (at : ℕ) (l index : List ℕ) → List ℕ
 enters_index at l index = pick (live l) (insert (entry (key_at l) at) index) index
@@ -50,9 +50,9 @@ pub data Opening : Type 0 where
 
 -- what comes of a piece that begins at `at`
 abbrev pub go_on : (at : ℕ) → Entered → Opening → Opening
-go_on at (entered.More n) rest = rest
-go_on at entered.Again rest = bad at
-go_on at entered.Full rest = full
+go_on at (Ok n) rest = rest
+go_on at (Err entered.Again) rest = bad at
+go_on at (Err entered.Full) rest = full
 
 -- in so many steps at most
 unfoldable pub open_from : (steps places at : ℕ) (l index : List ℕ) → Opening
@@ -69,9 +69,9 @@ opening bytes index = open_from (length bytes) (capacity index) 0 bytes []
 -- ---- what is told and left
 
 abbrev pub opened_by : (used : ℕ) → Opening → Opened
-opened_by used (done index) = opened.Done (book_of used (length index))
-opened_by used (bad start) = opened.Bad start
-opened_by used full = opened.Full
+opened_by used (done index) = Ok (book_of used (length index))
+opened_by used (bad start) = (Err (opened.Bad start))
+opened_by used full = (Err opened.Full)
 
 abbrev pub left_by : List ℕ → Opening → List ℕ
 left_by index (done l) = sets index 0 l

@@ -1,7 +1,7 @@
 -- The bytes of a book: pieces one after another, each a sheet or one that was removed, which has version 0 and is not looked at any more but for its length. What a piece's
 -- first 16 bytes tell (`length_of`, `live`, `key_at`); the bytes of pieces (`joined`); their index (`placed`), and the index worked out afresh from bytes alone
 -- (`afresh`). Assumes nothing.
-use Rattle.std.specs.Prelude.{ℕ, zero, suc, ◌+◌, ◌*◌, Bool, true, false, not, List, [], ◌∷◌, ◌++◌, eqb, length, drop}
+use Rattle.std.specs.Prelude.{ℕ, zero, suc, ◌+◌, ◌*◌, Bool, false, not, List, [], ◌∷◌, ◌++◌, eqb, length, drop}
 use Rattle.std.proofs.Math.Option.{Option, none, some}
 use Rattle.scan.specs.Scan.{pick}
 use Rattle.sheet.specs.Format.{length_at, version_at, kind_at, size_at, source_at}

@@ -8,11 +8,11 @@ use Rattle.sheet.specs.Says.{flaw_number, flaw_path, flaw_place}
 use Rattle.sheet.specs.declared.Flaw.{Flaw}
 use Rattle.book.specs.Pieces.{of}
 use Rattle.book.specs.Sheets.{against}
-use Rattle.book.specs.Says.{capacity, limit, book_of, add_says, add_bytes, add_index, find_says, remove_says, remove_bytes, remove_index, close_book, close_bytes, close_index}
+use Rattle.book.specs.Says.{book_of, add_says, add_bytes, add_index, find_says, remove_says, remove_bytes, remove_index, close_book, close_bytes, close_index}
 use Rattle.book.specs.Told.{added_number, added_path, added_place, added_book, removed_number, removed_book}
 use Rattle.book.specs.declared.Book.{Book}
-use Rattle.book.specs.declared.Found.{Found}
-use Rattle.book.specs.declared.Found.TheVariants as found
+use Rattle.book.specs.Types.{MaybeFound}
+use Rattle.std.specs.Prelude.{Some, None}
 
 pub data Call : Type 0 where
   add : (sheet : List ℕ) → Call
@@ -113,9 +113,9 @@ pub record State : Type 0 where
   pub index : List ℕ
 
 -- the bytes that are found
-abbrev pub found_told : List ℕ → Found → Answer
-found_told bytes (found.At s n) = tell 0 0 0 (take n (drop s bytes))
-found_told bytes found.Missing = number 51
+abbrev pub found_told : List ℕ → MaybeFound → Answer
+found_told bytes (Some f) = tell 0 0 0 (take f.length (drop f.start bytes))
+found_told bytes None = number 51
 
 module _ (st : State) where
   unfoldable pub answer : Call → Answer

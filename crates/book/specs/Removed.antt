@@ -1,21 +1,19 @@
 -- A piece that is removed: its version byte becomes 0 (`gone`), where it stands (`mark`). The bytes change in that one place (`joined-mark`), the index loses its place
 -- (`placed-mark`), and its key has no sheet any more, while every other has the one that it had (`sheet-mark-other`, `mark-stands`). Assumes nothing.
-use Rattle.std.specs.Prelude.{ℕ, zero, suc, ◌+◌, ◌-◌, ◌*◌, ◌≤◌, ◌<◌, ◌≡◌, Bool, not, ◌⊎◌, ◌≢◌, List, [], ◌∷◌, ◌++◌, eqb, get_or, set}
+use Rattle.std.specs.Prelude.{ℕ, ◌+◌, ◌-◌, ◌≤◌, ◌<◌, ◌≡◌, Bool, not, ◌≢◌, List, [], ◌∷◌, ◌++◌, eqb, set}
 use Rattle.std.proofs.Math.Path.{refl, sym, ap}
-use Rattle.std.proofs.Common.{ap₂, ◌∙◌, subst, inl, inr, ⊎_elim, suc-add, zero-add, arith, length-set, length-append, get_or-set_same, get_or-set_other, eq-eqb, ne_eqb}
+use Rattle.std.proofs.Common.{ap₂, ◌∙◌, subst, inl, inr, suc-add, zero-add, arith, length-set, length-append, get_or-set_same, get_or-set_other, eq-eqb, ne_eqb}
 use Rattle.std.proofs.Math.Bool.{true, false}
-use Rattle.std.proofs.Math.Option.{Option, none, some}
-use Rattle.std.proofs.Math.Decide.{ℕ_discrete}
+use Rattle.std.proofs.Math.Option.{Option, some}
 use Rattle.std.proofs.Math.ListN.{length}
 use Rattle.std.proofs.lemmas.List.{set-append_left}
 use Rattle.scan.specs.Scan.{pick}
 use Rattle.scan.specs.Laws.{true-false}
 use Rattle.octets.specs.Big.{number_cong}
 use Rattle.paths.specs.Lists.{In}
-use Rattle.sheet.specs.Format.{version_at}
 use Rattle.book.specs.Ordered.{STARTS, entry, insert, without, without-none, without-insert, without_other}
-use Rattle.book.specs.Pieces.{length_of, live, key_at, of, joined, placed, sheet_of}
-use Rattle.book.specs.Stands.{Piece, Sound, Stands, Owner, stands_from, stands_within, stands_sound, up-placed, placed_in}
+use Rattle.book.specs.Pieces.{live, key_at, of, joined, placed, sheet_of}
+use Rattle.book.specs.Stands.{Piece, Sound, Stands, stands_from, stands_within, stands_sound, up-placed, placed_in}
 
 -- the place of the version byte
 abbrev pub VERSIONED : ℕ

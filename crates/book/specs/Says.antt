@@ -1,6 +1,6 @@
 -- What a book's routines tell and leave, of any head and any slices. No more bytes are used than 65,536, and no more places of the index than 256: `limit` and `capacity` are
 -- what of the slices lent can be used, and `count` how many places are looked at. Bytes beyond the used and places beyond those are not looked at, and stay. Assumes nothing.
-use Rattle.std.specs.Prelude.{ℕ, ◌+◌, ◌-◌, min, Bool, true, false, List, map, eqb, ltb, leb, length, get_or, set, take}
+use Rattle.std.specs.Prelude.{ℕ, ◌+◌, ◌-◌, min, Bool, false, List, map, eqb, ltb, leb, length, get_or, set, take}
 use Rattle.std.proofs.Math.Option.{Option, none, some}
 use Rattle.std.proofs.lemmas.List.Edits.{sets}
 use Rattle.scan.specs.Scan.{pick}
@@ -15,14 +15,9 @@ use Rattle.book.specs.Sheets.{against}
 use Rattle.book.specs.Removed.{VERSIONED}
 use Rattle.book.specs.Closed.{kept, slid}
 use Rattle.book.specs.declared.Book.{Book}
-use Rattle.book.specs.declared.Added.{Added}
-use Rattle.book.specs.declared.Added.TheVariants as added
-use Rattle.book.specs.declared.Found.{Found}
-use Rattle.book.specs.declared.Found.TheVariants as found
-use Rattle.book.specs.declared.Removed.{Removed}
-use Rattle.book.specs.declared.Removed.TheVariants as removed
-use Rattle.book.specs.declared.Sought.{Sought}
-use Rattle.book.specs.declared.Sought.TheVariants as sought
+use Rattle.book.specs.Types.{Added, MaybeFound, MaybeSought, Removed, sought_at}
+use Rattle.std.specs.Prelude.{Ok, Err, Some, None}
+use Rattle.book.specs.declared.NotAdded.TheVariants as added
 
 abbrev pub LIMIT : ℕ
 LIMIT = 65536
@@ -78,16 +73,16 @@ module _ (b : Book) (bytes index : List ℕ) where
 
 -- the first of what stands against it, or the head afterwards
 abbrev pub add_by : Option Flaw → (there full short : Bool) → Book → Added
-add_by (some f) t u v b = added.Flawed f
-add_by none t u v b = pick t added.There (pick u added.Full (pick v added.NoRoom (added.Done b)))
+add_by (some f) t u v b = (Err (added.Flawed f))
+add_by none t u v b = pick t (Err added.There) (pick u (Err added.Full) (pick v (Err added.NoRoom) (Ok b)))
 
 -- the one where it is added, else the other
 abbrev pub if_added : {A : Type 0} → Added → A → A → A
-if_added (added.Done b) x y = x
-if_added (added.Flawed f) x y = y
-if_added added.There x y = y
-if_added added.Full x y = y
-if_added added.NoRoom x y = y
+if_added (Ok b) x y = x
+if_added ((Err (added.Flawed f))) x y = y
+if_added (Err added.There) x y = y
+if_added (Err added.Full) x y = y
+if_added (Err added.NoRoom) x y = y
 
 -- no place is left in the index
 unfoldable pub full : (b : Book) (index : List ℕ) → Bool
@@ -110,11 +105,11 @@ module _ (b : Book) (bytes index sheet : List ℕ) where
 
 -- the one where there was no room, else the other
 abbrev pub if_no_room : {A : Type 0} → Added → A → A → A
-if_no_room added.NoRoom x y = x
-if_no_room (added.Done b) x y = y
-if_no_room (added.Flawed f) x y = y
-if_no_room added.There x y = y
-if_no_room added.Full x y = y
+if_no_room (Err added.NoRoom) x y = x
+if_no_room (Ok b) x y = y
+if_no_room ((Err (added.Flawed f))) x y = y
+if_no_room (Err added.There) x y = y
+if_no_room (Err added.Full) x y = y
 
 -- no room is left with the live sheets alone
 unfoldable pub crammed : (b : Book) (bytes sheet : List ℕ) → Bool
@@ -124,7 +119,7 @@ crammed b bytes sheet = ltb (limit bytes) (length (kept (in_use b bytes)) + leng
 module _ (b : Book) (bytes index sheet : List ℕ) where
   unfoldable pub add_says : Added
   add_says =
-      if_no_room (end_says b bytes index sheet) (pick (crammed b bytes sheet) added.NoRoom (end_says (close_book b bytes index) (close_bytes b bytes index) (close_index b bytes index) sheet))
+      if_no_room (end_says b bytes index sheet) (pick (crammed b bytes sheet) (Err added.NoRoom) (end_says (close_book b bytes index) (close_bytes b bytes index) (close_index b bytes index) sheet))
       (end_says b bytes index sheet)
 
   unfoldable pub add_bytes : List ℕ
@@ -140,35 +135,35 @@ module _ (b : Book) (bytes index sheet : List ℕ) where
 -- ---- finding and removing
 
 -- a sheet that the index has at place i, from `start` on: none where the bytes lent do not hold it whole
-abbrev pub held_at : (bytes : List ℕ) (i start : ℕ) → Sought
+abbrev pub held_at : (bytes : List ℕ) (i start : ℕ) → MaybeSought
 held_at bytes i start =
-    pick (ltb (length bytes) (start + HEAD)) sought.Missing
-    (pick (ltb (length bytes) (start + (4 + number bytes start 4))) sought.Missing (sought.At i start (4 + number bytes start 4)))
+    pick (ltb (length bytes) (start + HEAD)) None
+    (pick (ltb (length bytes) (start + (4 + number bytes start 4))) None (sought_at i start (4 + number bytes start 4)))
 
-abbrev pub find_by : Sought → Found
-find_by (sought.At i s n) = found.At s n
-find_by sought.Missing = found.Missing
+abbrev pub find_by : MaybeSought → MaybeFound
+find_by (Some x) = Some x.found
+find_by None = None
 
-abbrev pub remove_by : (used entries : ℕ) → Sought → Removed
-remove_by used entries (sought.At i s n) = removed.Done (book_of used (entries - 1))
-remove_by used entries sought.Missing = removed.Missing
+abbrev pub remove_by : (used entries : ℕ) → MaybeSought → Removed
+remove_by used entries (Some x) = Some (book_of used (entries - 1))
+remove_by used entries None = None
 
-abbrev pub remove_bytes_by : List ℕ → Sought → List ℕ
-remove_bytes_by bytes (sought.At i s n) = set bytes (s + VERSIONED) 0
-remove_bytes_by bytes sought.Missing = bytes
+abbrev pub remove_bytes_by : List ℕ → MaybeSought → List ℕ
+remove_bytes_by bytes (Some x) = set bytes (x.found.start + VERSIONED) 0
+remove_bytes_by bytes None = bytes
 
-abbrev pub remove_index_by : List ℕ → ℕ → Sought → List ℕ
-remove_index_by index entries (sought.At i s n) = closed index i entries
-remove_index_by index entries sought.Missing = index
+abbrev pub remove_index_by : List ℕ → ℕ → MaybeSought → List ℕ
+remove_index_by index entries (Some x) = closed index x.place entries
+remove_index_by index entries None = index
 
 module _ (b : Book) (bytes index : List ℕ) (kind size source : ℕ) where
-  unfoldable pub seeks : Sought
+  unfoldable pub seeks : MaybeSought
   seeks =
       pick (is_key kind size source)
-      (pick (there b index (key kind size source)) (held_at bytes (spot b index (key kind size source)) (start_of (get_or index (spot b index (key kind size source)) 0))) sought.Missing)
-      sought.Missing
+      (pick (there b index (key kind size source)) (held_at bytes (spot b index (key kind size source)) (start_of (get_or index (spot b index (key kind size source)) 0))) None)
+      None
 
-  unfoldable pub find_says : Found
+  unfoldable pub find_says : MaybeFound
   find_says = find_by seeks
 
   unfoldable pub remove_says : Removed

@@ -1,6 +1,6 @@
 -- The search in a lent index, of which the first n places rise: it finds the place of a key (`search_below`), tells whether it is there (`search_hit`), and where to put it in
 -- (`search_put`). Assumes nothing.
-use Rattle.std.specs.Prelude.{ℕ, suc, ◌+◌, ◌-◌, ◌*◌, ◌/◌, ◌≤◌, ◌<◌, ◌≡◌, refl, Bool, true, false, ◌⊎◌, ◌≢◌, List, [], ◌∷◌, ◌++◌, eqb, ltb, length, get_or, take, drop}
+use Rattle.std.specs.Prelude.{ℕ, ◌+◌, ◌≤◌, ◌<◌, ◌≡◌, Bool, true, false, ◌⊎◌, ◌≢◌, List, ◌∷◌, ◌++◌, eqb, ltb, length, get_or, take, drop}
 use Rattle.std.proofs.Common.{sym, ap, ap₂, ◌∙◌, subst, inl, inr, arith, get_or-take, length-take-le, ltb-true}
 use Rattle.scan.specs.Scan.{pick}
 use Rattle.scan.specs.Laws.{true-or}

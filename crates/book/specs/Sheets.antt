@@ -1,15 +1,14 @@
 -- What a book asks of a sheet that is added (`against`: what the reader of either version has against it, but 8), and all that it knows of one that is accepted (`Sheet`, `accepted`): it is as long as it
 -- tells, its version is not 0, and its key is one. Nothing else of this library's sheets matters to a book. Assumes nothing.
-use Rattle.std.specs.Prelude.{ℕ, ◌+◌, ◌-◌, ◌≤◌, ◌<◌, ◌≡◌, refl, Bool, true, false, not, List, eqb, ltb, length}
+use Rattle.std.specs.Prelude.{ℕ, ◌-◌, ◌≤◌, ◌<◌, ◌≡◌, refl, Bool, true, false, not, List, eqb, ltb, length, Ok, Err}
 use Rattle.std.proofs.Math.Path.{sym, ap}
-use Rattle.std.proofs.Common.{ap₂, ◌∙◌, subst, arith, ltb-true, ltb-false, eqb-true, ne_eqb}
+use Rattle.std.proofs.Common.{ap₂, ◌∙◌, arith, ltb-false, eqb-true, ne_eqb}
 use Rattle.std.proofs.Math.Option.{Option, none, some}
-use Rattle.std.proofs.lemmas.Bool.{eqb-false, not-false}
+use Rattle.std.proofs.lemmas.Bool.{not-false}
 use Rattle.scan.specs.Scan.{pick}
-use Rattle.scan.specs.Laws.{true-or, true-false}
 use Rattle.cube.specs.Sizes.{known-most}
 use Rattle.two_parts.specs.Parts.{known_bounds}
-use Rattle.mesh.specs.Kinds.{Kind, kind_of, mesh_of, planned}
+use Rattle.mesh.specs.Kinds.{kind_of, planned}
 use Rattle.mesh.specs.Laws.{planned_case, planned-known}
 use Rattle.mesh.specs.Limits.{known-relays}
 use Rattle.mesh.specs.Requests.{neither_wanting}
@@ -17,15 +16,13 @@ use Rattle.judge.specs.Says.{number_of}
 use Rattle.sheet.specs.Format.{VERSION, ZONED, HEAD, zoned, version_of, length_at, version_at, kind_at, size_at, source_at, count_at}
 use Rattle.sheet.specs.Flaws.{flawed-none, before-none, no_flaw}
 use Rattle.sheet.specs.Judging.{judged, judged-fine}
-use Rattle.sheet.specs.Says.{flawed, reading_told, read_kind, read_size, read_source}
-use Rattle.sheet.specs.declared.Reading.{Reading}
-use Rattle.sheet.specs.declared.Reading.TheVariants as reading
-use Rattle.mesh.specs.declared.Mesh as code
+use Rattle.sheet.specs.Says.{reading_told, read_kind, read_size, read_source}
+use Rattle.sheet.specs.declared.Head.{Head}
 use Rattle.sheet_check.specs.Told.{told_flaw, told_none}
 use Rattle.sheet.specs.declared.Flaw.{Flaw}
 use Rattle.sheet.specs.declared.Flaw.TheVariants as flaw
 use Rattle.sheet_take.specs.Says.{looked}
-use Rattle.sheet_check.specs.Says.{cut, bad_count, mesh_at, flaw_in, ruled, head_against, paths_against, check_against, sheet_ruling, sheet_told, sheet_targets, sheet_places, sheet_counts}
+use Rattle.sheet_check.specs.Says.{cut, mesh_at, flaw_in, ruled, head_against, paths_against, check_against, sheet_ruling, sheet_told, sheet_targets, sheet_places, sheet_counts}
 use Rattle.book.specs.Pieces.{length_of, live, SOURCES, key, key_at}
 
 unfoldable pub against : List ℕ → Option Flaw
@@ -99,17 +96,16 @@ pub record Checked (l : List ℕ) (kind size source : ℕ) : Type 0 where
   pub source_is : source ≡ source_at l
 
 module _ (l : List ℕ) where
-  pub check_fan : {r : Reading} {m : code.Mesh} {s k : ℕ} → r ≡ reading.Fan m s k → reading_told r ≡ sheet_told l (check_against (version_of l) l) → Checked l m.kind m.size s
+  pub check_fan : (h : Head) → reading_told (Ok h) ≡ sheet_told l (check_against (version_of l) l) → Checked l h.mesh.kind h.mesh.size h.source
   unfolding against
-  check_fan e t =
-      let told = sym (ap reading_told e) ∙ t in
-      let clean = told_none l (check_against (version_of l) l) told in
-      let all = told ∙ ap (sheet_told l) clean in
+  check_fan h t =
+      let clean = told_none l (check_against (version_of l) l) {kind = h.mesh.kind} {size = h.mesh.size} {s = h.source} {k = h.paths} t in
+      let all = t ∙ ap (sheet_told l) clean in
       record { fine = clean; kind_is = ap read_kind all; size_is = ap read_size all; source_is = ap read_source all }
 
-  pub check_refused : {r : Reading} {f : Flaw} → r ≡ reading.Refused f → reading_told r ≡ sheet_told l (check_against (version_of l) l) → against l ≡ some f
+  pub check_refused : (f : Flaw) → reading_told (Err f) ≡ sheet_told l (check_against (version_of l) l) → against l ≡ some f
   unfolding against
-  check_refused e t = sym (told_flaw l (check_against (version_of l) l) (sym (ap reading_told e) ∙ t))
+  check_refused f t = sym (told_flaw l (check_against (version_of l) l) {f = f} t)
 
   -- its key is one
   pub checked_keyed : {kind size source : ℕ} → Checked l kind size source → Keyed kind size source

@@ -1,6 +1,6 @@
 -- Where pieces stand. `Stands from ps s p`: of pieces of which the first begins at `from`, p begins at s. Its bytes stand there (`stands-bytes`); the index has its place
 -- (`in_placed`, `placed_in`), and is the one worked out afresh (`walk-joined`); one piece more is one place more (`placed-more`). Assumes nothing.
-use Rattle.std.specs.Prelude.{ℕ, zero, suc, ◌+◌, ◌-◌, ◌*◌, ◌≤◌, ◌<◌, ◌≡◌, Bool, not, ◌⊎◌, ◌≢◌, eqb, get_or, take, drop}
+use Rattle.std.specs.Prelude.{ℕ, zero, suc, ◌+◌, ◌-◌, ◌*◌, ◌≤◌, ◌<◌, ◌≡◌, Bool, not, ◌⊎◌, eqb, get_or, take, drop}
 use Rattle.std.proofs.Math.Path.{refl, ap, ap₂}
 use Rattle.std.proofs.Common.{sym, ◌∙◌, subst, inl, ⊎_elim, arith, length-append, drop_at}
 use Rattle.std.proofs.Math.Bool.{true, false}
@@ -10,13 +10,12 @@ use mathlib.Core.List.{List, [], ◌∷◌, ◌++◌, append_assoc, append-nil}
 use Rattle.std.proofs.Math.ListN.{length, get_or-append}
 use Rattle.std.proofs.Math.Seq.{take-append_seam, drop-append-add}
 use Rattle.scan.specs.Scan.{pick}
-use Rattle.scan.specs.Laws.{true-or, true-false}
 use Rattle.octets.specs.Big.{number, number_cong}
 use Rattle.paths.specs.Lists.{In}
-use Rattle.sheet.specs.Format.{HEAD, length_at, version_at, kind_at, size_at, source_at}
+use Rattle.sheet.specs.Format.{HEAD, kind_at, size_at, source_at}
 use Rattle.book.specs.Ordered.{entry, insert, Up, up-insert, in_insert, insert_in, insert-both}
 use Rattle.book.specs.Pieces.{length_of, live, key_at, of, joined, placed, sheet_of, walk, afresh}
-use Rattle.book.specs.Sheets.{against, Sheet, accepted}
+use Rattle.book.specs.Sheets.{against, accepted}
 
 -- a piece of a book: as long as it tells, and accepted if it is live
 pub record Piece (p : List ℕ) : Type 0 where

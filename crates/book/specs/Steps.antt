@@ -1,6 +1,6 @@
 -- A book stays held: with a sheet more (`held-add`), and without one (`held-remove`); and what is sought in it is found where it stands (`seeks-seen`). Assumes nothing.
-use Prim.Native.Nat.{ℕ, zero, suc, ◌+◌, ◌-◌, ◌*◌, ◌/◌, ◌%◌, ◌≤◌, ◌<◌, min}
-use Rattle.std.specs.Prelude.{◌≡◌, Bool, true, false, not, ◌≢◌, eqb, ltb, get_or, set, drop}
+use Prim.Native.Nat.{ℕ, suc, ◌+◌, ◌-◌, ◌≤◌, ◌<◌, min}
+use Rattle.std.specs.Prelude.{◌≡◌, Bool, true, ltb, get_or, set, drop}
 use Rattle.std.proofs.Math.Path.{refl, ap, ap₂, subst}
 use Rattle.std.proofs.Common.{sym, ◌∙◌, arith, length-append, length-set, take-take, get_or-take, get_or-drop, le-ltb}
 use Rattle.std.proofs.Math.Option.{Option, none, some}
@@ -10,21 +10,20 @@ use Rattle.std.proofs.lemmas.List.Edits.{sets, sets-eq}
 use Rattle.std.proofs.Math.Seq.{length-sets, take_at, take-set-lt, length-take-le}
 use Rattle.scan.specs.Scan.{pick}
 use Rattle.octets.specs.Big.{number, number_cong}
-use Rattle.paths.specs.Lists.{In}
 use Rattle.sheet.specs.Format.{HEAD, kind_at, size_at, source_at}
-use Rattle.book_parts.specs.Moved.{opened, closed, behind, opened-front, closed-front, opened-length, closed-length}
-use Rattle.book.specs.Ordered.{STARTS, entry, key_of, start_of, insert, below, Rising, insert-at, below-entry, below_within, rising_insert, rising_without, without, without_at}
-use Rattle.book.specs.Pieces.{length_of, live, key, key_at, of, joined, placed, sheet_of}
-use Rattle.book.specs.Sheets.{against, Sheet, accepted}
-use Rattle.book.specs.Stands.{Piece, Sound, Stands, sheet-piece, sound_more, joined-more, placed-more, stands-bytes, stands_sound, sheet-some}
+use Rattle.book_parts.specs.Moved.{opened, closed, behind, closed-front, opened-length, closed-length}
+use Rattle.book.specs.Ordered.{STARTS, entry, key_of, start_of, insert, Rising, rising_insert, rising_without, without, without_at}
+use Rattle.book.specs.Pieces.{key, key_at, joined, placed, sheet_of}
+use Rattle.book.specs.Sheets.{against, accepted}
+use Rattle.book.specs.Stands.{sheet-piece, sound_more, joined-more, placed-more, stands-bytes, stands_sound, sheet-some}
 use Rattle.book.specs.Removed.{VERSIONED, mark, sound_mark, joined-mark, placed-mark, mark-stands}
 use Rattle.book.specs.Closed.{kept, slid, lives, kept_long, kept-joined, sound_lives, rising_map, slid-key, placed-lives}
 use Rattle.book.specs.Searched.{search_put}
-use Rattle.book.specs.Says.{LIMIT, MOST, limit, capacity, book_of, is_key, count, spot, there, held_at, seeks, in_use, close_book, close_bytes, close_index}
-use Rattle.book.specs.Held.{Held, few, within, lent, used_is, entries_are, count_is, spot-found, lent-entries, Seen, Unseen, Same, of-same, same-key-of, same-piece}
+use Rattle.book.specs.Says.{LIMIT, MOST, limit, capacity, book_of, is_key, count, spot, held_at, seeks, in_use, close_book, close_bytes, close_index}
+use Rattle.book.specs.Held.{Held, few, within, lent, used_is, entries_are, count_is, spot-found, lent-entries, Seen, Unseen, of-same, same-key-of, same-piece}
 use Rattle.book.specs.declared.Book.{Book}
-use Rattle.book.specs.declared.Sought.{Sought}
-use Rattle.book.specs.declared.Sought.TheVariants as sought
+use Rattle.book.specs.Types.{sought_at}
+use Rattle.std.specs.Prelude.{None}
 
 entry_key : (k s : ℕ) → s < STARTS → key_of (entry k s) ≡ k
 entry_key k s h = omega arith
@@ -104,17 +103,17 @@ module _ {places room : ℕ} {ps : List (List ℕ)} {b : Book} {bytes index : Li
     seen-length : 4 + number bytes s.start 4 ≡ length s.piece
     seen-length = ap (λ (n : ℕ). 4 + n) seen-number ∙ (stands_sound 0 ps s.start p h.sound s.stands).told
 
-    pub seeks-seen : is_key kind size source ≡ true → seeks b bytes index kind size source ≡ sought.At (spot b index (key kind size source)) s.start (length s.piece)
+    pub seeks-seen : is_key kind size source ≡ true → seeks b bytes index kind size source ≡ sought_at (spot b index (key kind size source)) s.start (length s.piece)
     unfolding seeks
     seeks-seen k =
-        ap₂ (λ (a c : Bool). pick a (pick c (held_at bytes (spot b index (key kind size source)) (start_of (get_or index (spot b index (key kind size source)) 0))) sought.Missing) sought.Missing) k s.is_there
+        ap₂ (λ (a c : Bool). pick a (pick c (held_at bytes (spot b index (key kind size source)) (start_of (get_or index (spot b index (key kind size source)) 0))) None) None) k s.is_there
         ∙ ap (λ (n : ℕ). held_at bytes (spot b index (key kind size source)) (start_of n)) s.place_is
         ∙ ap (held_at bytes (spot b index (key kind size source))) (entry-start (key_at p) s.start starting)
-        ∙ ap (λ (c : Bool). pick c sought.Missing
-        (pick (ltb (length bytes) (s.start + (4 + number bytes s.start 4))) sought.Missing (sought.At (spot b index (key kind size source)) s.start (4 + number bytes s.start 4))))
+        ∙ ap (λ (c : Bool). pick c None
+        (pick (ltb (length bytes) (s.start + (4 + number bytes s.start 4))) None (sought_at (spot b index (key kind size source)) s.start (4 + number bytes s.start 4))))
         (le-ltb (length bytes) (s.start + HEAD) (omega (arith, s.start_fits, long, h.used_fit, within h)))
-        ∙ ap (λ (n : ℕ). pick (ltb (length bytes) (s.start + n)) sought.Missing (sought.At (spot b index (key kind size source)) s.start n)) seen-length
-        ∙ ap (λ (c : Bool). pick c sought.Missing (sought.At (spot b index (key kind size source)) s.start (length p)))
+        ∙ ap (λ (n : ℕ). pick (ltb (length bytes) (s.start + n)) None (sought_at (spot b index (key kind size source)) s.start n)) seen-length
+        ∙ ap (λ (c : Bool). pick c None (sought_at (spot b index (key kind size source)) s.start (length p)))
         (le-ltb (length bytes) (s.start + length p) (omega (arith, s.start_fits, h.used_fit, within h)))
 
     unmarked : placed 0 (mark 0 s.start ps) ≡ without (entry (key_at s.piece) s.start) (placed 0 ps)

@@ -2,74 +2,85 @@
 use Rattle.std.specs.Prelude.{ℕ}
 use Rattle.sheet.specs.Says.{flaw_number, flaw_path, flaw_place}
 use Rattle.book.specs.declared.Book.{Book}
-use Rattle.book.specs.declared.Added.{Added}
-use Rattle.book.specs.declared.Added.TheVariants as added
-use Rattle.book.specs.declared.Found.{Found}
-use Rattle.book.specs.declared.Found.TheVariants as found
-use Rattle.book.specs.declared.Removed.{Removed}
-use Rattle.book.specs.declared.Removed.TheVariants as removed
-use Rattle.book.specs.declared.Opened.{Opened}
-use Rattle.book.specs.declared.Opened.TheVariants as opened
+use Rattle.book.specs.Types.{Added, MaybeFound, Opened, Removed}
+use Rattle.std.specs.Prelude.{Ok, Err, Some, None}
+use Rattle.book.specs.declared.NotAdded.{NotAdded}
+use Rattle.book.specs.declared.NotAdded.TheVariants as added
+use Rattle.book.specs.declared.NotOpened.{NotOpened}
+use Rattle.book.specs.declared.NotOpened.TheVariants as opened
+
+-- of a refusal to add
+abbrev pub reason_number : NotAdded → ℕ
+reason_number (added.Flawed f) = flaw_number f
+reason_number added.There = 39
+reason_number added.Full = 40
+reason_number added.NoRoom = 8
+
+abbrev pub reason_path : NotAdded → ℕ
+reason_path (added.Flawed f) = flaw_path f
+reason_path added.There = 0
+reason_path added.Full = 0
+reason_path added.NoRoom = 0
+
+abbrev pub reason_place : NotAdded → ℕ
+reason_place (added.Flawed f) = flaw_place f
+reason_place added.There = 0
+reason_place added.Full = 0
+reason_place added.NoRoom = 0
 
 abbrev pub added_number : Added → ℕ
-added_number (added.Done b) = 0
-added_number (added.Flawed f) = flaw_number f
-added_number added.There = 39
-added_number added.Full = 40
-added_number added.NoRoom = 8
+added_number (Ok b) = 0
+added_number (Err why) = reason_number why
 
 abbrev pub added_path : Added → ℕ
-added_path (added.Done b) = 0
-added_path (added.Flawed f) = flaw_path f
-added_path added.There = 0
-added_path added.Full = 0
-added_path added.NoRoom = 0
+added_path (Ok b) = 0
+added_path (Err why) = reason_path why
 
 abbrev pub added_place : Added → ℕ
-added_place (added.Done b) = 0
-added_place (added.Flawed f) = flaw_place f
-added_place added.There = 0
-added_place added.Full = 0
-added_place added.NoRoom = 0
+added_place (Ok b) = 0
+added_place (Err why) = reason_place why
 
 abbrev pub added_book : Added → Book → Book
-added_book (added.Done b) was = b
-added_book (added.Flawed f) was = was
-added_book added.There was = was
-added_book added.Full was = was
-added_book added.NoRoom was = was
+added_book (Ok b) was = b
+added_book (Err why) was = was
 
-abbrev pub found_number : Found → ℕ
-found_number (found.At s n) = 0
-found_number found.Missing = 51
+abbrev pub found_number : MaybeFound → ℕ
+found_number (Some f) = 0
+found_number None = 51
 
-abbrev pub found_start : Found → ℕ
-found_start (found.At s n) = s
-found_start found.Missing = 0
+abbrev pub found_start : MaybeFound → ℕ
+found_start (Some f) = f.start
+found_start None = 0
 
-abbrev pub found_length : Found → ℕ
-found_length (found.At s n) = n
-found_length found.Missing = 0
+abbrev pub found_length : MaybeFound → ℕ
+found_length (Some f) = f.length
+found_length None = 0
 
 abbrev pub removed_number : Removed → ℕ
-removed_number (removed.Done b) = 0
-removed_number removed.Missing = 51
+removed_number (Some b) = 0
+removed_number None = 51
 
 abbrev pub removed_book : Removed → Book → Book
-removed_book (removed.Done b) was = b
-removed_book removed.Missing was = was
+removed_book (Some b) was = b
+removed_book None was = was
+
+-- of a refusal to open
+abbrev pub unopened_number : NotOpened → ℕ
+unopened_number (opened.Bad s) = 53
+unopened_number opened.Full = 40
+
+abbrev pub unopened_place : NotOpened → ℕ
+unopened_place (opened.Bad s) = s
+unopened_place opened.Full = 0
 
 abbrev pub opened_number : Opened → ℕ
-opened_number (opened.Done b) = 0
-opened_number (opened.Bad s) = 53
-opened_number opened.Full = 40
+opened_number (Ok b) = 0
+opened_number (Err why) = unopened_number why
 
 abbrev pub opened_place : Opened → ℕ
-opened_place (opened.Done b) = 0
-opened_place (opened.Bad s) = s
-opened_place opened.Full = 0
+opened_place (Ok b) = 0
+opened_place (Err why) = unopened_place why
 
 abbrev pub opened_book : Opened → Book → Book
-opened_book (opened.Done b) was = b
-opened_book (opened.Bad s) was = was
-opened_book opened.Full was = was
+opened_book (Ok b) was = b
+opened_book (Err why) was = was

@@ -2,6 +2,7 @@
 #![tactic(auto)]
 
 ghost use Rattle.std.specs.Prelude.{◌≡◌};
+ghost use Rattle.book.specs.declared.NotAdded.TheVariants as NotAdded;
 ghost use Rattle.book.specs.Told as told;
 
 use sheet::Flaw;
@@ -14,11 +15,9 @@ pub struct Book {
     pub entries: usize,
 }
 
-// What becomes of a sheet that is to be added, with the head afterwards. A refusal changes nothing.
+// Why a sheet is not added. A refusal changes nothing.
 #[derive(Clone, Copy)]
-pub enum Added {
-    // 0
-    Done(Book),
+pub enum NotAdded {
     // what the reader has against it, but 8
     Flawed(Flaw),
     // 39: there is a sheet of this kind, size and source
@@ -29,192 +28,146 @@ pub enum Added {
     NoRoom,
 }
 
-// Where a sheet is.
+// Why bytes are not opened as a book.
 #[derive(Clone, Copy)]
-pub enum Found {
-    // its start and its length
-    At(usize, usize),
-    // 51
-    Missing,
-}
-
-// Where a sheet is, with its place in the index.
-#[derive(Clone, Copy)]
-pub enum Sought {
-    // place, start and length
-    At(usize, usize, usize),
-    Missing,
-}
-
-// What becomes of a sheet that is to be removed, with the head afterwards. A refusal changes nothing.
-#[derive(Clone, Copy)]
-pub enum Removed {
-    // 0
-    Done(Book),
-    // 51
-    Missing,
-}
-
-// What becomes of bytes that are to be opened as a book, with its head.
-#[derive(Clone, Copy)]
-pub enum Opened {
-    // 0
-    Done(Book),
+pub enum NotOpened {
     // 53, with its start as the place: no accepted or removed sheet, or one whose kind, size and source are there already
     Bad(usize),
     // 40: the index is too short
     Full,
 }
 
-// What becomes of one piece of them.
+// Why one piece of them is not entered into the index.
 #[derive(Clone, Copy)]
-pub enum Entered {
-    // how many places the index has then
-    More(usize),
+pub enum NotEntered {
     // its key is there already
     Again,
     Full,
 }
 
-impl Added {
-    // 0, or the number of what stands against it.
+// Where a sheet is.
+#[derive(Clone, Copy)]
+pub struct Found {
+    pub start: usize,
+    pub length: usize,
+}
+
+// The same, with its place in the index.
+#[derive(Clone, Copy)]
+pub struct Sought {
+    pub place: usize,
+    pub found: Found,
+}
+
+impl From<Flaw> for NotAdded {
+    ghost from_gives = { λ flaw why. why ≡ NotAdded.Flawed flaw };
+
+    fn from(flaw: Flaw) -> NotAdded {
+        NotAdded::Flawed(flaw)
+    }
+}
+
+impl NotAdded {
+    // The number of the reason.
     pub fn number(self) -> u64
-        ensures { result ≡ told.added_number self }
+        ensures { result ≡ told.reason_number self }
     {
         match self {
-            Added::Done(_) => 0,
-            Added::Flawed(f) => f.number(),
-            Added::There => 39,
-            Added::Full => 40,
-            Added::NoRoom => 8,
+            NotAdded::Flawed(f) => f.number(),
+            NotAdded::There => 39,
+            NotAdded::Full => 40,
+            NotAdded::NoRoom => 8,
         }
     }
 
     // The path that the reader tells, and 0 of all else.
     pub fn path(self) -> usize
-        ensures { result ≡ told.added_path self }
+        ensures { result ≡ told.reason_path self }
     {
         match self {
-            Added::Done(_) => 0,
-            Added::Flawed(f) => f.path(),
-            Added::There => 0,
-            Added::Full => 0,
-            Added::NoRoom => 0,
+            NotAdded::Flawed(f) => f.path(),
+            _ => 0,
         }
     }
 
     // The place that the reader tells, and 0 of all else.
     pub fn place(self) -> usize
-        ensures { result ≡ told.added_place self }
+        ensures { result ≡ told.reason_place self }
     {
         match self {
-            Added::Done(_) => 0,
-            Added::Flawed(f) => f.place(),
-            Added::There => 0,
-            Added::Full => 0,
-            Added::NoRoom => 0,
-        }
-    }
-
-    // The head to keep: the one before, where it is refused.
-    pub fn book(self, was: Book) -> Book
-        ensures { result ≡ told.added_book self was }
-    {
-        match self {
-            Added::Done(b) => b,
-            Added::Flawed(_) => was,
-            Added::There => was,
-            Added::Full => was,
-            Added::NoRoom => was,
+            NotAdded::Flawed(f) => f.place(),
+            _ => 0,
         }
     }
 }
 
-impl Found {
-    // 0 or 51.
+impl NotOpened {
+    // 53 or 40.
     pub fn number(self) -> u64
-        ensures { result ≡ told.found_number self }
+        ensures { result ≡ told.unopened_number self }
     {
         match self {
-            Found::At(_, _) => 0,
-            Found::Missing => 51,
-        }
-    }
-
-    // Where the sheet starts, and 0 of none.
-    pub fn start(self) -> usize
-        ensures { result ≡ told.found_start self }
-    {
-        match self {
-            Found::At(start, _) => start,
-            Found::Missing => 0,
-        }
-    }
-
-    // Its length, and 0 of none.
-    pub fn length(self) -> usize
-        ensures { result ≡ told.found_length self }
-    {
-        match self {
-            Found::At(_, n) => n,
-            Found::Missing => 0,
-        }
-    }
-}
-
-impl Removed {
-    // 0 or 51.
-    pub fn number(self) -> u64
-        ensures { result ≡ told.removed_number self }
-    {
-        match self {
-            Removed::Done(_) => 0,
-            Removed::Missing => 51,
-        }
-    }
-
-    // The head to keep: the one before, where nothing is removed.
-    pub fn book(self, was: Book) -> Book
-        ensures { result ≡ told.removed_book self was }
-    {
-        match self {
-            Removed::Done(b) => b,
-            Removed::Missing => was,
-        }
-    }
-}
-
-impl Opened {
-    // 0, 53 or 40.
-    pub fn number(self) -> u64
-        ensures { result ≡ told.opened_number self }
-    {
-        match self {
-            Opened::Done(_) => 0,
-            Opened::Bad(_) => 53,
-            Opened::Full => 40,
+            NotOpened::Bad(_) => 53,
+            NotOpened::Full => 40,
         }
     }
 
     // The start that 53 tells, and 0 of all else.
     pub fn place(self) -> usize
-        ensures { result ≡ told.opened_place self }
+        ensures { result ≡ told.unopened_place self }
     {
         match self {
-            Opened::Done(_) => 0,
-            Opened::Bad(start) => start,
-            Opened::Full => 0,
+            NotOpened::Bad(start) => start,
+            NotOpened::Full => 0,
         }
     }
+}
 
-    // The head, and the one before where it is refused.
-    pub fn book(self, was: Book) -> Book
-        ensures { result ≡ told.opened_book self was }
-    {
-        match self {
-            Opened::Done(b) => b,
-            Opened::Bad(_) => was,
-            Opened::Full => was,
-        }
-    }
+// 0, or 51 where there is no such sheet.
+pub fn found_number(found: Option<Found>) -> u64
+    ensures { result ≡ told.found_number found }
+{
+    found.map_or(51, |_| 0)
+}
+
+// Where the sheet starts, and 0 of none.
+pub fn start(found: Option<Found>) -> usize
+    ensures { result ≡ told.found_start found }
+{
+    found.map_or(0, |sheet| sheet.start)
+}
+
+// Its length, and 0 of none.
+pub fn length(found: Option<Found>) -> usize
+    ensures { result ≡ told.found_length found }
+{
+    found.map_or(0, |sheet| sheet.length)
+}
+
+// 0, or 51 where there was no such sheet to be removed.
+pub fn removed_number(removed: Option<Book>) -> u64
+    ensures { result ≡ told.removed_number removed }
+{
+    removed.map_or(51, |_| 0)
+}
+
+// The head to keep after a sheet was to be added: the one before, where it is refused.
+pub fn after_adding(added: Result<Book, NotAdded>, was: Book) -> Book
+    ensures { result ≡ told.added_book added was }
+{
+    added.unwrap_or(was)
+}
+
+// The head to keep after a sheet was to be removed: the one before, where nothing is removed.
+pub fn after_removing(removed: Option<Book>, was: Book) -> Book
+    ensures { result ≡ told.removed_book removed was }
+{
+    removed.unwrap_or(was)
+}
+
+// The head of bytes that were to be opened, and the one before where they are refused.
+pub fn after_opening(opened: Result<Book, NotOpened>, was: Book) -> Book
+    ensures { result ≡ told.opened_book opened was }
+{
+    opened.unwrap_or(was)
 }

@@ -1,10 +1,10 @@
 -- What the loops that close a book up keep: how many live bytes were counted (`Counting`), which live pieces have moved (`Sliding`), and places of the index (`Following`).
 -- Assumes nothing.
-use Rattle.std.specs.Prelude.{ℕ, zero, suc, ◌+◌, ◌-◌, ◌*◌, ◌/◌, ◌%◌, ◌≤◌, ◌<◌, min, ◌≡◌, refl, Bool, true, false, not, List, [], ◌∷◌, ◌++◌, map, eqb, length, get_or, take, drop}
-use Rattle.std.proofs.Common.{sym, ap, ap₂, ◌∙◌, subst, append_assoc, append-nil, arith, length-append, length-take, length-drop, take-take, take_all, drop-drop, get_or-drop, get_or-take, length-take-le}
-use Rattle.std.proofs.lemmas.List.{length-map, take-append-le}
+use Rattle.std.specs.Prelude.{ℕ, zero, suc, ◌+◌, ◌-◌, ◌*◌, ◌/◌, ◌%◌, ◌≤◌, ◌<◌, min, ◌≡◌, refl, Bool, true, false, not, List, [], ◌∷◌, ◌++◌, map, eqb, length, get_or, set, take, drop}
+use Rattle.std.proofs.Common.{sym, ap, ap₂, ◌∙◌, subst, append_assoc, append-nil, arith, length-append, length-set, length-take, add-one, length-drop, take-take, take_all, drop-drop, get_or-drop, get_or-take, length-take-le}
+use Rattle.std.proofs.lemmas.List.{length-map, map-append, take-append-le}
 use Rattle.std.proofs.lemmas.List.Edits.{sets, sets-eq}
-use Rattle.std.proofs.Math.Seq.{length-sets, drop-append-add}
+use Rattle.std.proofs.Math.Seq.{length-sets, drop-append-add, drop-cons, take-suc, get_or_at, set_at}
 use Rattle.scan.specs.Scan.{pick}
 use Rattle.scan.specs.Runs.{sets_append}
 use Rattle.octets.specs.Big.{number, number_cong}
@@ -231,10 +231,54 @@ unfolding slid
 slid_is l end x start n e f =
     ap (entry (key_of x)) (f ∙ ap (λ (k : ℕ). length (kept (take k l))) e ∙ ap (λ (k : List ℕ). length (kept k)) (sym (take_least (start_of x) end l)))
 
-pub get_d_map : (f : ℕ → ℕ) (l : List ℕ) (i : ℕ) → i < length l → get_or (map f l) i 0 ≡ f (get_or l i 0)
-get_d_map f [] i h = absurd (omega arith)
-get_d_map f (x ∷ l) zero h = refl
-get_d_map f (x ∷ l) (suc i) h = get_d_map f l i (omega arith)
+-- ---- the places of the index, one after another
+
+-- the first i numbers have become what f makes of them, and those ahead are as they were
+pub record Following (f : ℕ → ℕ) (was : List ℕ) (n : ℕ) (is : List ℕ) (i : ℕ) : Type 0 where
+  pub room : n ≤ length was
+  pub within : i ≤ n
+  pub long : length is ≡ length was
+  pub wrote : is ≡ map f (take i was) ++ drop i was
+
+pub following_starts : (f : ℕ → ℕ) (l : List ℕ) (n : ℕ) → n ≤ length l → Following f l n l 0
+following_starts f l n h = record { room = h; within = omega arith; long = refl; wrote = refl }
+
+module _ {f : ℕ → ℕ} {was : List ℕ} {n : ℕ} {is : List ℕ} {i : ℕ} (q : Following f was n is i) where
+  front : i ≤ length was → length (map f (take i was)) ≡ i
+  front h = length-map (take i was) f ∙ length-take-le i was h
+
+  split : i < n → is ≡ map f (take i was) ++ (get_or was i 0 ∷ drop (suc i) was)
+  split h = q.wrote ∙ ap (λ (l : List ℕ). map f (take i was) ++ l) (drop-cons was i 0 (omega (arith, q.room)))
+
+  following_ahead : i < n → get_or is i 0 ≡ get_or was i 0
+  following_ahead h = ap (λ (l : List ℕ). get_or l i 0) (split h) ∙ get_or_at (map f (take i was)) (get_or was i 0) (drop (suc i) was) 0 i (front (omega (arith, q.room)))
+
+  pub following_more : {y : ℕ} → i < n → y ≡ f (get_or is i 0) → Following f was n (set is i y) (i + 1)
+  following_more {y} h e = record {
+    room = q.room;
+    within = omega arith;
+    long = length-set is i y ∙ q.long;
+    wrote =
+        ap₂ (λ (l : List ℕ) (v : ℕ). set l i v) (split h) (e ∙ ap f (following_ahead h))
+        ∙ set_at (map f (take i was)) x rest (f x) i (front (omega (arith, q.room)))
+        ∙ sym (append_assoc (map f (take i was)) (f x ∷ []) rest)
+        ∙ sym (ap (λ (l : List ℕ). l ++ rest) (ap (map f) (take-suc was i 0 (omega (arith, q.room))) ∙ map-append f (take i was) (x ∷ [])))
+        ∙ sym (ap (λ (k : ℕ). map f (take k was) ++ drop k was) (add-one i));
+  }
+    where
+      x : ℕ
+      x = get_or was i 0
+
+      rest : List ℕ
+      rest = drop (suc i) was
+
+  pub following_ends : n ≤ i → is ≡ sets was 0 (map f (take n was))
+  following_ends h =
+      let all : i ≡ n = omega (arith, q.within) in
+      let many : length (map f (take n was)) ≡ n = length-map (take n was) f ∙ length-take-le n was q.room in
+      let end : n ≡ 0 + length (map f (take n was)) = omega arith in
+      q.wrote ∙ ap (λ (k : ℕ). map f (take k was) ++ drop k was) all ∙ ap (λ (k : ℕ). map f (take n was) ++ drop k was) end
+      ∙ sym (sets-eq (map f (take n was)) was 0 (omega (arith, q.room)))
 
 -- ---- what stands from a place on
 

@@ -23,7 +23,7 @@ fn piece(bytes: &[u8], at: usize, end: usize) -> usize
     requires { (at + 16 ≤ end) × (end ≤ length bytes.now) }
     ensures { result ≡ min (end - at) (pieces.length_of (drop at bytes.now)) }
 {
-    book_keys::lesser(end - at, 4 + octets::number(bytes, at, 4) as usize)
+    (end - at).min(4 + octets::number(bytes, at, 4) as usize)
 }
 
 // How many of its n bytes are kept: all, or none.
@@ -31,10 +31,7 @@ fn staying(bytes: &[u8], at: usize, n: usize) -> usize
     requires { at + 16 ≤ length bytes.now }
     ensures { result ≡ pick (pieces.live (drop at bytes.now)) n 0 }
 {
-    if live(bytes, at) {
-        return n;
-    }
-    0
+    if live(bytes, at) { n } else { 0 }
 }
 
 // How many of the first bytes are those of live pieces.
@@ -52,18 +49,6 @@ pub fn live_bytes(bytes: &[u8], end: usize) -> usize
     sum
 }
 
-// Moves n bytes down, to places that may overlap those where they stand.
-fn slide(bytes: &mut [u8], from: usize, to: usize, n: usize)
-    requires { (to ≤ from) × (from + n ≤ length bytes.old) }
-    ensures { bytes.new ≡ sets bytes.old to (take n (drop from bytes.old)) }
-{
-    let mut q: usize = 0;
-    while q < n {
-        bytes[to + q] = bytes[from + q];
-        q += 1;
-    }
-}
-
 // Moves the live pieces of the first bytes down to the front; gives how long they are.
 fn close_bytes(bytes: &mut [u8], end: usize) -> usize
     requires { end ≤ length bytes.old }
@@ -75,7 +60,7 @@ fn close_bytes(bytes: &mut [u8], end: usize) -> usize
     while 16 <= end - at {
         let n = piece(bytes, at, end);
         let m = staying(bytes, at, n);
-        slide(bytes, at, to, m);
+        bytes.copy_within(at..at + m, to);
         to += m;
         at += n;
     }
@@ -87,7 +72,7 @@ fn moved(bytes: &[u8], end: usize, x: u64) -> u64
     requires { end ≤ length bytes.now }
     ensures { result ≡ slid (take end bytes.now) x }
 {
-    let start = book_keys::lesser((x % 65536) as usize, end);
+    let start = ((x % 65536) as usize).min(end);
     x / 65536 * 65536 + live_bytes(bytes, start) as u64
 }
 
@@ -96,10 +81,8 @@ fn close_index(bytes: &[u8], end: usize, index: &mut [u64], n: usize)
     requires { (end ≤ length bytes.now) × (n ≤ length index.old) }
     ensures { index.new ≡ sets index.old 0 (map (slid (take end bytes.now)) (take n index.old)) }
 {
-    let mut i: usize = 0;
-    while i < n {
+    for i in 0..n {
         index[i] = moved(bytes, end, index[i]);
-        i += 1;
     }
 }
 
@@ -109,11 +92,8 @@ pub fn close(book: Book, bytes: &mut [u8], index: &mut [u64]) -> Book
     ensures { (result ≡ close_book book bytes.old index.old) × (bytes.new ≡ close_bytes book bytes.old index.old) × (index.new ≡ close_index book bytes.old index.old) }
 {
     let n = book_keys::count(book, index);
-    let end = book_keys::lesser(book.used, book_keys::lesser(65536, bytes.len()));
+    let end = book.used.min(bytes.len().min(65536));
     close_index(bytes, end, index, n);
     let used = close_bytes(bytes, end);
-    Book {
-        used: used,
-        entries: n,
-    }
+    Book { used, entries: n }
 }

@@ -18,12 +18,9 @@ use Rattle.book.specs.Removed.{VERSIONED}
 use Rattle.book.specs.Sheets.{against, Keyed}
 use Rattle.book.specs.Says.{LIMIT, MOST, limit, capacity, book_of, is_key, count, spot, there, full, short, add_by, if_added, end_says, end_bytes, end_index, held_at, seeks, find_by, find_says, remove_by, remove_bytes_by, remove_index_by, remove_says, remove_bytes, remove_index}
 use Rattle.book.specs.declared.Book.{Book}
-use Rattle.book.specs.declared.Added.{Added}
-use Rattle.book.specs.declared.Added.TheVariants as added
-use Rattle.book.specs.declared.Removed.{Removed}
-use Rattle.book.specs.declared.Removed.TheVariants as removed
-use Rattle.book.specs.declared.Sought.{Sought}
-use Rattle.book.specs.declared.Sought.TheVariants as sought
+use Rattle.book.specs.Types.{Added, MaybeSought, Removed, sought_at}
+use Rattle.std.specs.Prelude.{None}
+use Rattle.book.specs.declared.NotAdded.TheVariants as added
 
 -- ---- the place of a key
 
@@ -72,22 +69,22 @@ module _ (b : Book) (bytes index : List ℕ) (kind size source : ℕ) where
   abbrev k : ℕ
   k = key kind size source
 
-  pub seeks_unkeyed : is_key kind size source ≡ false → sought.Missing ≡ seeks b bytes index kind size source
+  pub seeks_unkeyed : is_key kind size source ≡ false → None ≡ seeks b bytes index kind size source
   unfolding seeks
   seeks_unkeyed e =
-      sym (ap (λ (a : Bool). pick a (pick (there b index k) (held_at bytes (spot b index k) (start_of (get_or index (spot b index k) 0))) sought.Missing) sought.Missing) e)
+      sym (ap (λ (a : Bool). pick a (pick (there b index k) (held_at bytes (spot b index k) (start_of (get_or index (spot b index k) 0))) None) None) e)
 
-  pub seeks_missed : is_key kind size source ≡ true → there b index (key kind size source) ≡ false → sought.Missing ≡ seeks b bytes index kind size source
+  pub seeks_missed : is_key kind size source ≡ true → there b index (key kind size source) ≡ false → None ≡ seeks b bytes index kind size source
   unfolding seeks
   seeks_missed e f =
-      sym (ap₂ (λ (a c : Bool). pick a (pick c (held_at bytes (spot b index k) (start_of (get_or index (spot b index k) 0))) sought.Missing) sought.Missing) e f)
+      sym (ap₂ (λ (a c : Bool). pick a (pick c (held_at bytes (spot b index k) (start_of (get_or index (spot b index k) 0))) None) None) e f)
 
   pub seeks-held : is_key kind size source ≡ true → there b index (key kind size source) ≡ true → {i : ℕ} → i ≡ spot b index (key kind size source)
       → held_at bytes i (start_of (get_or index i 0)) ≡ seeks b bytes index kind size source
   unfolding seeks
   seeks-held e f {i} g =
       ap (λ (j : ℕ). held_at bytes j (start_of (get_or index j 0))) g
-      ∙ sym (ap₂ (λ (a c : Bool). pick a (pick c (held_at bytes (spot b index k) (start_of (get_or index (spot b index k) 0))) sought.Missing) sought.Missing) e f)
+      ∙ sym (ap₂ (λ (a c : Bool). pick a (pick c (held_at bytes (spot b index k) (start_of (get_or index (spot b index k) 0))) None) None) e f)
 
 -- what code has of it
 module _ (b : Book) (bytes index : List ℕ) (kind size source : ℕ) {f t : Bool} {n i : ℕ} (k : ℕ) (ef : f ≡ is_key kind size source) (tf : f ≡ true) (ek : k ≡ key kind size source)
@@ -95,25 +92,8 @@ module _ (b : Book) (bytes index : List ℕ) (kind size source : ℕ) {f t : Boo
   code_there : t ≡ there b index (key kind size source)
   code_there = et ∙ there_is b index k en ei ∙ ap (there b index) ek
 
-  pub code_missed : t ≡ false → sought.Missing ≡ seeks b bytes index kind size source
+  pub code_missed : t ≡ false → None ≡ seeks b bytes index kind size source
   code_missed e = seeks_missed b bytes index kind size source (sym ef ∙ tf) (sym code_there ∙ e)
 
-  pub code_held : t ≡ true → {r : Sought} → r ≡ held_at bytes i (start_of (get_or index i 0)) → r ≡ seeks b bytes index kind size source
+  pub code_held : t ≡ true → {r : MaybeSought} → r ≡ held_at bytes i (start_of (get_or index i 0)) → r ≡ seeks b bytes index kind size source
   code_held e g = g ∙ seeks-held b bytes index kind size source (sym ef ∙ tf) (sym code_there ∙ e) (spot_is b index k en ei ∙ ap (spot b index) ek)
-
-module _ (bytes : List ℕ) (i start : ℕ) where
-  pub held-short : length bytes < start + HEAD → sought.Missing ≡ held_at bytes i start
-  held-short h =
-      sym (ap (λ (a : Bool). pick a sought.Missing (pick (ltb (length bytes) (start + (4 + number bytes start 4))) sought.Missing (sought.At i start (4 + number bytes start 4)))) (lt-ltb _ _ h))
-
-  module _ {n : ℕ} (h : start + HEAD ≤ length bytes) (e : n ≡ number bytes start 4) where
-    held_by : pick (ltb (length bytes) (start + (4 + n))) sought.Missing (sought.At i start (4 + n)) ≡ held_at bytes i start
-    held_by =
-        ap (λ (m : ℕ). pick (ltb (length bytes) (start + (4 + m))) sought.Missing (sought.At i start (4 + m))) e
-        ∙ sym (ap (λ (a : Bool). pick a sought.Missing (pick (ltb (length bytes) (start + (4 + number bytes start 4))) sought.Missing (sought.At i start (4 + number bytes start 4)))) (le-ltb _ _ h))
-
-    pub held_cut : length bytes < start + (4 + n) → sought.Missing ≡ held_at bytes i start
-    held_cut g = sym (ap (λ (a : Bool). pick a sought.Missing (sought.At i start (4 + n))) (lt-ltb _ _ g)) ∙ held_by
-
-    pub held_whole : start + (4 + n) ≤ length bytes → sought.At i start (4 + n) ≡ held_at bytes i start
-    held_whole g = sym (ap (λ (a : Bool). pick a sought.Missing (sought.At i start (4 + n))) (le-ltb _ _ g)) ∙ held_by

@@ -16,15 +16,16 @@ use Rattle.book.specs.Pieces.{live, key, key_at}
 use Rattle.book.specs.Sheets.{Keyed}
 use Rattle.book.specs.Searched.{search_hit, search_put}
 use Rattle.book.specs.Open.{piece_length, enters, enters_index}
-use Rattle.book.specs.declared.Entered.{Entered}
-use Rattle.book.specs.declared.Entered.TheVariants as entered
+use Rattle.book.specs.Types.{Entered}
+use Rattle.std.specs.Prelude.{Ok, Err}
+use Rattle.book.specs.declared.NotEntered.TheVariants as entered
 use Rattle.book_open.specs.Needs.{Enterable, Kept}
 use Rattle.book_open.specs.Pieces.{Begun, begun}
 
-no_more : {m : ℕ} {r : Entered} {A : Type 0} → (r ≡ entered.Again) → r ≡ entered.More m → A
+no_more : {m : ℕ} {r : Entered} {A : Type 0} → (r ≡ (Err entered.Again)) → r ≡ Ok m → A
 no_more e f = let z : ◌≡◌ {A = ℕ} 0 1 = cc in absurd (omega arith)
 
-no_more-full : {m : ℕ} {r : Entered} {A : Type 0} → (r ≡ entered.Full) → r ≡ entered.More m → A
+no_more-full : {m : ℕ} {r : Entered} {A : Type 0} → (r ≡ (Err entered.Full)) → r ≡ Ok m → A
 no_more-full e f = let z : ◌≡◌ {A = ℕ} 0 1 = cc in absurd (omega arith)
 
 module _ {l : List ℕ} {at places n : ℕ} {room : List ℕ} (h : Enterable l at places n room) where
@@ -38,18 +39,18 @@ module _ {l : List ℕ} {at places n : ℕ} {room : List ℕ} (h : Enterable l a
   long = length-take-le n room lent
 
   enters_by : {v t u : Bool} → live l ≡ v → hit (key_at l) (take n room) (below (entry (key_at l) 0) (take n room)) ≡ t → leb places (length (take n room)) ≡ u
-      → enters places l (take n room) ≡ pick v (pick t entered.Again (pick u entered.Full (entered.More (length (take n room) + 1)))) (entered.More (length (take n room)))
+      → enters places l (take n room) ≡ pick v (pick t (Err entered.Again) (pick u (Err entered.Full) (Ok (length (take n room) + 1)))) (Ok (length (take n room)))
   unfolding enters
   enters_by {v} {t} {u} pv pt pu =
-      ap₂ (λ (x y : Bool). pick x (pick y entered.Again (pick (leb places (length (take n room))) entered.Full (entered.More (length (take n room) + 1)))) (entered.More (length (take n room)))) pv pt
-      ∙ ap (λ (y : Bool). pick v (pick t entered.Again (pick y entered.Full (entered.More (length (take n room) + 1)))) (entered.More (length (take n room)))) pu
+      ap₂ (λ (x y : Bool). pick x (pick y (Err entered.Again) (pick (leb places (length (take n room))) (Err entered.Full) (Ok (length (take n room) + 1)))) (Ok (length (take n room)))) pv pt
+      ∙ ap (λ (y : Bool). pick v (pick t (Err entered.Again) (pick y (Err entered.Full) (Ok (length (take n room) + 1)))) (Ok (length (take n room)))) pu
 
-  pub kept_removed : get_or l 4 0 ≡ 0 → Kept l at places n room (entered.More n) room
+  pub kept_removed : get_or l 4 0 ≡ 0 → Kept l at places n room (Ok n) room
   unfolding enters_index
   kept_removed z =
       let dead : live l ≡ false = ap not (eq-eqb (get_or l 4 0) 0 z) in
       record {
-        told = sym (enters_by dead refl refl ∙ ap entered.More long);
+        told = sym (enters_by dead refl refl ∙ ap Ok long);
         long = refl;
         more = λ m e. let same : n ≡ m = cc in (
           ap (λ (k : ℕ). take k room) (sym same) ∙ sym (ap (λ (b : Bool). pick b (insert (entry (key_at l) at) (take n room)) (take n room)) dead),
@@ -69,16 +70,16 @@ module _ {l : List ℕ} {at places n : ℕ} {room : List ℕ} (h : Enterable l a
     hits : hit (key_at l) (take n room) (below (entry (key_at l) 0) (take n room)) ≡ t
     hits = sym (et ∙ ap (λ (x : ℕ). pick (ltb i n) (eqb (key_of (get_or room i 0)) x) false) ek ∙ search_hit room (take n room) n lent refl h.rising (key_at l) found)
 
-    pub kept_again : t ≡ true → Kept l at places n room entered.Again room
+    pub kept_again : t ≡ true → Kept l at places n room (Err entered.Again) room
     kept_again p = record { told = sym (enters_by alive (hits ∙ p) refl); long = refl; more = λ m e. no_more refl e }
 
-    pub kept_full : t ≡ false → places ≤ n → Kept l at places n room entered.Full room
+    pub kept_full : t ≡ false → places ≤ n → Kept l at places n room (Err entered.Full) room
     kept_full p q = record { told = sym (enters_by alive (hits ∙ p) (le-leb places (length (take n room)) (omega (arith, long)))); long = refl; more = λ m e. no_more-full refl e }
 
     pub place-lent : i ≤ n
     place-lent = omega (arith, place_within room (k * 65536) n)
 
-    pub kept_more : t ≡ false → n < places → {is : List ℕ} → is ≡ opened room i n (k * 65536 + at) → Kept l at places n room (entered.More (n + 1)) is
+    pub kept_more : t ≡ false → n < places → {is : List ℕ} → is ≡ opened room i n (k * 65536 + at) → Kept l at places n room (Ok (n + 1)) is
     unfolding enters_index
     kept_more p q {is} e =
         let new = missed (key_at l) (take n room) h.rising (hits ∙ p) in
@@ -87,7 +88,7 @@ module _ {l : List ℕ} {at places n : ℕ} {room : List ℕ} (h : Enterable l a
         let front : take (n + 1) is ≡ insert (entry (key_at l) at) (take n room) =
         ap (take (n + 1)) (e ∙ ap (opened room i n) x) ∙ search_put room (take n room) n lent refl h.rising (key_at l) at found starts new (omega (arith, h.lent)) in
         record {
-          told = sym (enters_by alive (hits ∙ p) (lt-leb places (length (take n room)) (omega (arith, long))) ∙ ap (λ (m : ℕ). entered.More (m + 1)) long);
+          told = sym (enters_by alive (hits ∙ p) (lt-leb places (length (take n room)) (omega (arith, long))) ∙ ap (λ (m : ℕ). Ok (m + 1)) long);
           long = ap length e ∙ opened-length room i n (k * 65536 + at);
           more = λ m g. let same : n + 1 ≡ m = cc in (
             ap (λ (j : ℕ). take j is) (sym same) ∙ front ∙ sym (ap (λ (b : Bool). pick b (insert (entry (key_at l) at) (take n room)) (take n room)) alive),
@@ -101,8 +102,10 @@ module _ {l : List ℕ} {at places n : ℕ} {room : List ℕ} (h : Enterable l a
 
 -- ---- the key as code reads it
 
-pub key-at : (l : List ℕ) {s k : ℕ} → s ≡ number l 8 8 → k ≡ key (get_or l 5 0) (get_or l 6 0) s → k ≡ key_at l
-key-at l e f = f ∙ ap (key (get_or l 5 0) (get_or l 6 0)) e
+-- kind, size and source as code reads them
+module _ (l : List ℕ) {kind size s : ℕ} (ek : kind ≡ get_or l 5 0) (ez : size ≡ get_or l 6 0) (es : s ≡ number l 8 8) where
+  pub key-at : {k : ℕ} → k ≡ key kind size s → k ≡ key_at l
+  key-at f = f ∙ ap₂ (λ (a b : ℕ). key a b s) ek ez ∙ ap (key (get_or l 5 0) (get_or l 6 0)) es
 
-pub keyed_here : {kind size source s : ℕ} → Keyed kind size source → s ≡ source → Keyed kind size s
-keyed_here {kind} {size} k e = subst (Keyed kind size) (sym e) k
+  pub keyed_here : Keyed (get_or l 5 0) (get_or l 6 0) (number l 8 8) → Keyed kind size s
+  keyed_here k = record { some-kind = omega (arith, k.some-kind); few_kinds = omega (arith, k.few_kinds); small = omega (arith, k.small); near = omega (arith, k.near) }

@@ -5,8 +5,9 @@ use Rattle.sheet.specs.declared.Flaw.{Flaw}
 use Rattle.book.specs.Ordered.{Rising}
 use Rattle.book.specs.Sheets.{against}
 use Rattle.book.specs.Open.{piece_length, enters, enters_index}
-use Rattle.book.specs.declared.Entered.{Entered}
-use Rattle.book.specs.declared.Entered.TheVariants as entered
+use Rattle.book.specs.Types.{Entered}
+use Rattle.std.specs.Prelude.{Ok}
+use Rattle.book.specs.declared.NotEntered.TheVariants as entered
 
 abbrev pub is_none : Option Flaw → Bool
 is_none none = true
@@ -26,4 +27,4 @@ pub record Enterable (l : List ℕ) (at places n : ℕ) (room : List ℕ) : Type
 pub record Kept (l : List ℕ) (at places n : ℕ) (was : List ℕ) (r : Entered) (is : List ℕ) : Type 0 where
   pub told : r ≡ enters places l (take n was)
   pub long : length is ≡ length was
-  pub more : (m : ℕ) → r ≡ entered.More m → (take m is ≡ enters_index at l (take n was)) × (m ≤ places) × Rising (take m is)
+  pub more : (m : ℕ) → r ≡ Ok m → (take m is ≡ enters_index at l (take n was)) × (m ≤ places) × Rising (take m is)

@@ -11,17 +11,17 @@ use Rattle.book.specs.Says.{LIMIT, capacity, book_of}
 use Rattle.book.specs.Open.{Opening, done, bad, full, go_on, piece_length, enters, enters_index, open_from, opening, opened_by, left_by, open_says, open_index}
 use Rattle.book.specs.Told.{opened_book}
 use Rattle.book.specs.declared.Book.{Book}
-use Rattle.book.specs.declared.Opened.{Opened}
-use Rattle.book.specs.declared.Opened.TheVariants as opened
-use Rattle.book.specs.declared.Entered.{Entered}
-use Rattle.book.specs.declared.Entered.TheVariants as entered
+use Rattle.book.specs.Types.{Entered, Opened}
+use Rattle.std.specs.Prelude.{Ok, Err}
+use Rattle.book.specs.declared.NotOpened.TheVariants as opened
+use Rattle.book.specs.declared.NotEntered.TheVariants as entered
 use Rattle.book_open.specs.Needs.{Enterable, Kept}
 use Rattle.book_open.specs.Pieces.{Begun, begun}
 
 -- what is told of all of them, and the places in the room where it is a book
 pub record Gathered (bytes : List ℕ) (places : ℕ) (r : Opened) (room : List ℕ) : Type 0 where
   pub told : r ≡ opened_by (length bytes) (open_from (length bytes) places 0 bytes [])
-  pub kept : (b : Book) → r ≡ opened.Done b → (open_from (length bytes) places 0 bytes [] ≡ done (take b.entries room)) × (b.entries ≤ places)
+  pub kept : (b : Book) → r ≡ Ok b → (open_from (length bytes) places 0 bytes [] ≡ done (take b.entries room)) × (b.entries ≤ places)
 
 -- the pieces before `at` are gone through, and the first n places of the room are theirs
 pub record Going (bytes : List ℕ) (places : ℕ) (was room : List ℕ) (at n : ℕ) : Type 0 where
@@ -65,17 +65,17 @@ unfolding open_from
 open_none zero places at index = refl
 open_none (suc steps) places at index = refl
 
-no_book : {r : Opened} {b : Book} {s : ℕ} {A : Type 0} → opened.Bad s ≡ r → r ≡ opened.Done b → A
+no_book : {r : Opened} {b : Book} {s : ℕ} {A : Type 0} → (Err (opened.Bad s)) ≡ r → r ≡ Ok b → A
 no_book e f = let z : ◌≡◌ {A = ℕ} 0 1 = cc in absurd (omega arith)
 
-no_book_full : {r : Opened} {b : Book} {A : Type 0} → opened.Full ≡ r → r ≡ opened.Done b → A
+no_book_full : {r : Opened} {b : Book} {A : Type 0} → (Err opened.Full) ≡ r → r ≡ Ok b → A
 no_book_full e f = let z : ◌≡◌ {A = ℕ} 0 1 = cc in absurd (omega arith)
 
 module _ {bytes : List ℕ} {places : ℕ} {was room : List ℕ} {at n : ℕ} (g : Going bytes places was room at n) where
   all : Opening
   all = open_from (length bytes) places 0 bytes []
 
-  pub going_ends : length bytes ≤ at → Gathered bytes places (opened.Done (book_of (length bytes) n)) room
+  pub going_ends : length bytes ≤ at → Gathered bytes places (Ok (book_of (length bytes) n)) room
   going_ends h =
       let e : at ≡ length bytes = omega (arith, g.within) in
       let none : drop at bytes ≡ [] = ap (λ (k : ℕ). drop k bytes) e ∙ drop-length bytes in
@@ -83,14 +83,14 @@ module _ {bytes : List ℕ} {places : ℕ} {was room : List ℕ} {at n : ℕ} (g
       g.same ∙ ap (λ (l : List ℕ). open_from g.steps places at l (take n room)) none ∙ open_none g.steps places at (take n room) in
       let few : length (take n room) ≡ n = length-take-le n room (omega (arith, g.few, g.lent)) in
       record {
-        told = sym (ap (opened_by (length bytes)) is ∙ ap (λ (k : ℕ). opened.Done (book_of (length bytes) k)) few);
+        told = sym (ap (opened_by (length bytes)) is ∙ ap (λ (k : ℕ). Ok (book_of (length bytes) k)) few);
         kept = λ b q. let same : n ≡ b.entries = ap entries_of q in (is ∙ ap (λ (k : ℕ). done (take k room)) same, omega (arith, g.few));
       }
     where
       entries_of : Opened → ℕ
-      entries_of (opened.Done b) = b.entries
-      entries_of (opened.Bad s) = 0
-      entries_of opened.Full = 0
+      entries_of (Ok b) = b.entries
+      entries_of ((Err (opened.Bad s))) = 0
+      entries_of (Err opened.Full) = 0
 
   module _ (h : at < length bytes) {size : ℕ} (es : size ≡ piece_length at (drop at bytes)) where
     step : open_from (length bytes) places 0 bytes []
@@ -99,19 +99,15 @@ module _ {bytes : List ℕ} {places : ℕ} {was room : List ℕ} {at n : ℕ} (g
         g.same ∙ open_step g.steps places at (drop at bytes) (take n room) (omega (arith, length-drop at bytes)) (omega (arith, g.enough))
         ∙ ap (λ (k : ℕ). pick (eqb k 0) (bad at) (go_on at (enters places (drop at bytes) (take n room)) (open_from (g.steps - 1) places (at + k) (drop k (drop at bytes)) (enters_index at (drop at bytes) (take n room))))) (sym es)
 
-    pub going_bad : size ≡ 0 → Gathered bytes places (opened.Bad at) room
+    pub going_bad : size ≡ 0 → Gathered bytes places ((Err (opened.Bad at))) room
     going_bad z = record {
       told = sym (ap (opened_by (length bytes)) (step ∙ ap (λ (b : Bool). pick b (bad at) (go_on at (enters places (drop at bytes) (take n room)) (open_from (g.steps - 1) places (at + size) (drop size (drop at bytes)) (enters_index at (drop at bytes) (take n room))))) (eq-eqb size 0 z)));
       kept = λ b q. no_book refl q;
     }
 
-    module _ (some : size ≡ 0 → ⊥) where
+    module _ (some : 0 < size) where
       pub going_enter : Enterable (drop at bytes) at places n room
-      going_enter = record { piece = omega (arith, positive size some); few = g.few; lent = g.lent; rising = g.rising }
-        where
-          positive : (k : ℕ) → (k ≡ 0 → ⊥) → 0 < k
-          positive zero f = absurd (f refl)
-          positive (suc k) f = omega arith
+      going_enter = record { piece = omega arith; few = g.few; lent = g.lent; rising = g.rising }
 
       begins : Begun at (drop at bytes)
       begins = begun at (drop at bytes) going_enter.piece
@@ -126,22 +122,22 @@ module _ {bytes : List ℕ} {places : ℕ} {was room : List ℕ} {at n : ℕ} (g
         stepped : open_from (length bytes) places 0 bytes []
             ≡ go_on at r (open_from (g.steps - 1) places (at + size) (drop size (drop at bytes)) (enters_index at (drop at bytes) (take n room)))
         stepped =
-            step ∙ ap (λ (b : Bool). pick b (bad at) (go_on at (enters places (drop at bytes) (take n room)) (open_from (g.steps - 1) places (at + size) (drop size (drop at bytes)) (enters_index at (drop at bytes) (take n room))))) (ne_eqb size 0 some)
+            step ∙ ap (λ (b : Bool). pick b (bad at) (go_on at (enters places (drop at bytes) (take n room)) (open_from (g.steps - 1) places (at + size) (drop size (drop at bytes)) (enters_index at (drop at bytes) (take n room))))) (ne_eqb size 0 (λ e. omega arith))
             ∙ ap (λ (x : Entered). go_on at x (open_from (g.steps - 1) places (at + size) (drop size (drop at bytes)) (enters_index at (drop at bytes) (take n room)))) (sym k.told)
 
-        pub going_again : r ≡ entered.Again → Gathered bytes places (opened.Bad at) room'
+        pub going_again : r ≡ (Err entered.Again) → Gathered bytes places ((Err (opened.Bad at))) room'
         going_again e = record {
           told = sym (ap (opened_by (length bytes)) (stepped ∙ ap (λ (x : Entered). go_on at x (open_from (g.steps - 1) places (at + size) (drop size (drop at bytes)) (enters_index at (drop at bytes) (take n room)))) e));
           kept = λ b q. no_book refl q;
         }
 
-        pub going_full : r ≡ entered.Full → Gathered bytes places opened.Full room'
+        pub going_full : r ≡ (Err entered.Full) → Gathered bytes places (Err opened.Full) room'
         going_full e = record {
           told = sym (ap (opened_by (length bytes)) (stepped ∙ ap (λ (x : Entered). go_on at x (open_from (g.steps - 1) places (at + size) (drop size (drop at bytes)) (enters_index at (drop at bytes) (take n room)))) e));
           kept = λ b q. no_book_full refl q;
         }
 
-        pub going_more : {m : ℕ} → r ≡ entered.More m → Going bytes places was room' (at + size) m
+        pub going_more : {m : ℕ} → r ≡ Ok m → Going bytes places was room' (at + size) m
         going_more {m} e =
             let w = k.more m e in
             let s = going_size in
@@ -161,42 +157,29 @@ module _ {bytes : List ℕ} {places : ℕ} {was room : List ℕ} {at n : ℕ} (g
 
 -- ---- told and left
 
-module _ (bytes index room : List ℕ) {places : ℕ} {r : Opened} (ep : places ≡ min 256 (length index)) (g : Gathered bytes places r room) where
+module _ (bytes index room : List ℕ) {places : ℕ} {r : Opened} (ep : places ≡ min (length index) 256) (g : Gathered bytes places r room) where
   all_of : open_from (length bytes) places 0 bytes [] ≡ opening bytes index
   unfolding opening capacity
-  all_of = ap (λ (k : ℕ). open_from (length bytes) k 0 bytes []) ep
+  all_of = ap (λ (k : ℕ). open_from (length bytes) k 0 bytes []) (omega arith)
 
   pub open_told : r ≡ open_says bytes index
   unfolding open_says
   open_told = g.told ∙ ap (opened_by (length bytes)) all_of
 
-  left_by_lem : {is : List ℕ} → is ≡ sets index 0 (take (opened_book r (book_of 0 0)).entries room) → is ≡ open_index bytes index
+  pub open_left : {is : List ℕ} → is ≡ sets index 0 (take (opened_book r (book_of 0 0)).entries room) → is ≡ open_index bytes index
   unfolding open_index
-  left_by_lem {is} e = e ∙ go r g.told (λ b q. (g.kept b q).0) ∙ ap (left_by index) all_of
+  open_left {is} e = e ∙ go r g.told (λ b q. (g.kept b q).0) ∙ ap (left_by index) all_of
     where
       refused : (o : Opening) → ((l : List ℕ) → o ≡ done l → ⊥) → index ≡ left_by index o
       refused (done l) h = absurd (h l refl)
       refused (bad t) h = refl
       refused full h = refl
 
-      go : (q : Opened) → q ≡ opened_by (length bytes) (open_from (length bytes) places 0 bytes []) → ((b : Book) → q ≡ opened.Done b → open_from (length bytes) places 0 bytes [] ≡ done (take b.entries room))
+      go : (q : Opened) → q ≡ opened_by (length bytes) (open_from (length bytes) places 0 bytes []) → ((b : Book) → q ≡ Ok b → open_from (length bytes) places 0 bytes [] ≡ done (take b.entries room))
           → sets index 0 (take (opened_book q (book_of 0 0)).entries room) ≡ left_by index (open_from (length bytes) places 0 bytes [])
-      go (opened.Done b) t k = ap (left_by index) (sym (k b refl))
-      go (opened.Bad s) t k = refused (open_from (length bytes) places 0 bytes []) (λ l f. no_book t (ap (opened_by (length bytes)) f))
-      go opened.Full t k = refused (open_from (length bytes) places 0 bytes []) (λ l f. no_book_full t (ap (opened_by (length bytes)) f))
-
-  -- so many places are kept
-  module _ {b₀ : Book} (eb : b₀ ≡ opened_book r (book_of 0 0)) where
-    pub open_few : (b₀.entries ≤ 256) × (b₀.entries ≤ length index)
-    open_few = go r (λ b e. (g.kept b e).1) (ap (λ (b : Book). b.entries) eb)
-      where
-        go : (q : Opened) → ((b : Book) → q ≡ opened.Done b → b.entries ≤ places) → b₀.entries ≡ (opened_book q (book_of 0 0)).entries → (b₀.entries ≤ 256) × (b₀.entries ≤ length index)
-        go (opened.Done b) k e = let w = k b refl in (omega arith, omega arith)
-        go (opened.Bad s) k e = (omega arith, omega arith)
-        go opened.Full k e = (omega arith, omega arith)
-
-    pub open_left : {is : List ℕ} → is ≡ sets index 0 (take b₀.entries room) → is ≡ open_index bytes index
-    open_left e = left_by_lem (e ∙ ap (λ (b : Book). sets index 0 (take b.entries room)) eb)
+      go (Ok b) t k = ap (left_by index) (sym (k b refl))
+      go ((Err (opened.Bad s))) t k = refused (open_from (length bytes) places 0 bytes []) (λ l f. no_book t (ap (opened_by (length bytes)) f))
+      go (Err opened.Full) t k = refused (open_from (length bytes) places 0 bytes []) (λ l f. no_book_full t (ap (opened_by (length bytes)) f))
 
 -- ---- a part of a slice, from a place on
 

@@ -1,17 +1,25 @@
 -- What a piece is, test by test (`piece_is`), and what is known of bytes that begin with one (`Begun`, `begun`). Assumes nothing.
-use Rattle.std.specs.Prelude.{ℕ, zero, suc, ◌+◌, ◌*◌, ◌≤◌, ◌<◌, ◌≡◌, refl, Bool, true, false, not, List, ◌++◌, eqb, ltb, length, get_or, take, drop}
+use Rattle.std.specs.Prelude.{ℕ, zero, suc, ◌+◌, ◌*◌, ◌≤◌, ◌<◌, ◌≡◌, refl, Bool, true, false, not, List, ◌++◌, eqb, ltb, length, get_or, take, drop, Result, Ok, Err, is_ok}
 use Rattle.std.proofs.Common.{sym, ap, ◌∙◌, subst, arith, length-take, get_or-take, length-take-le, ltb-false, lt-ltb, le-ltb, eq-eqb, ne_eqb}
 use Rattle.std.proofs.Math.Path.{ap₂}
 use Rattle.std.proofs.Math.Option.{Option, none, some}
 use Rattle.scan.specs.Scan.{pick}
 use Rattle.octets.specs.Big.{number, number_cong}
-use Rattle.sheet.specs.Format.{HEAD, kind_at, size_at, source_at}
+use Rattle.sheet.specs.Format.{HEAD, version_of, kind_at, size_at, source_at}
+use Rattle.sheet.specs.Says.{reading_told, head_told}
+use Rattle.sheet.specs.declared.Versioned.{Versioned}
+use Rattle.sheet_check.specs.Says.{check_against, sheet_told}
 use Rattle.sheet.specs.declared.Flaw.{Flaw}
 use Rattle.book.specs.Pieces.{length_of, live}
-use Rattle.book.specs.Sheets.{against, Keyed, accepted}
+use Rattle.book.specs.Sheets.{against, Keyed, accepted, check_fan, check_refused}
 use Rattle.book.specs.Says.{LIMIT}
 use Rattle.book.specs.Open.{fine_length, piece_length}
 use Rattle.book_open.specs.Needs.{is_none, fine}
+
+-- what the check says
+pub fine_is : (l : List ℕ) (r : Result Versioned Flaw) → reading_told (head_told r) ≡ sheet_told l (check_against (version_of l) l) → is_ok r ≡ fine l
+fine_is l (Ok x) t = sym (ap is_none (check_fan l x.head t).fine)
+fine_is l (Err f) t = sym (ap is_none (check_refused l f t))
 
 module _ (at : ℕ) (l : List ℕ) where
   abbrev pub piece_by : (a b c d v : Bool) → Option Flaw → ℕ

@@ -19,10 +19,10 @@ use Rattle.book.specs.Says.{LIMIT, capacity, book_of}
 use Rattle.book.specs.Held.{Held, within, used_is, entries_are, few}
 use Rattle.book.specs.Open.{Opening, done, bad, go_on, fine_length, piece_length, enters, enters_index, open_from, opening, opened_by, left_by, open_says, open_index}
 use Rattle.book.specs.declared.Book.{Book}
-use Rattle.book.specs.declared.Opened.{Opened}
-use Rattle.book.specs.declared.Opened.TheVariants as opened
-use Rattle.book.specs.declared.Entered.{Entered}
-use Rattle.book.specs.declared.Entered.TheVariants as entered
+use Rattle.book.specs.Types.{Entered, Opened}
+use Rattle.std.specs.Prelude.{Ok, Err}
+use Rattle.book.specs.declared.NotOpened.TheVariants as opened
+use Rattle.book.specs.declared.NotEntered.TheVariants as entered
 use Rattle.book_open.specs.Pieces.{piece_is, piece_by}
 use Rattle.book_open.specs.Opens.{open_step, open_none}
 
@@ -110,20 +110,20 @@ module _ (from : ℕ) (p r : List ℕ) (h : Piece p) (w : from + length p ≤ LI
     enters_on {rest} = go (live p) refl
       where
         by : (v t u : Bool) → Opening
-        by v t u = go_on from (pick v (pick t entered.Again (pick u entered.Full (entered.More (length l + 1)))) (entered.More (length l))) rest
+        by v t u = go_on from (pick v (pick t (Err entered.Again) (pick u (Err entered.Full) (Ok (length l + 1)))) (Ok (length l))) rest
 
         same : (v : Bool) → live p ≡ v
             → go_on from (enters places (p ++ r) l) rest
-            ≡ go_on from (pick v (pick (hit (key_at p) l (below (entry (key_at p) 0) l)) entered.Again (pick (leb places (length l)) entered.Full (entered.More (length l + 1)))) (entered.More (length l))) rest
+            ≡ go_on from (pick v (pick (hit (key_at p) l (below (entry (key_at p) 0) l)) (Err entered.Again) (pick (leb places (length l)) (Err entered.Full) (Ok (length l + 1)))) (Ok (length l))) rest
         same v e =
-            ap₂ (λ (x : Bool) (k : ℕ). go_on from (pick x (pick (hit k l (below (entry k 0) l)) entered.Again (pick (leb places (length l)) entered.Full (entered.More (length l + 1)))) (entered.More (length l))) rest)
+            ap₂ (λ (x : Bool) (k : ℕ). go_on from (pick x (pick (hit k l (below (entry k 0) l)) (Err entered.Again) (pick (leb places (length l)) (Err entered.Full) (Ok (length l + 1)))) (Ok (length l))) rest)
             (live-front p r h.long ∙ e) (key-front p r h.long)
 
         go : (v : Bool) → live p ≡ v → go_on from (enters places (p ++ r) l) rest ≡ rest
         go true e =
             let n = new e in
             same true e
-            ∙ ap₂ (λ (x y : Bool). go_on from (pick x entered.Again (pick y entered.Full (entered.More (length l + 1)))) rest) n.0 (lt-leb places (length l) n.1)
+            ∙ ap₂ (λ (x y : Bool). go_on from (pick x (Err entered.Again) (pick y (Err entered.Full) (Ok (length l + 1)))) rest) n.0 (lt-leb places (length l) n.1)
         go false e = same false e
 
     pub enters-index : enters_index from (p ++ r) l ≡ pick (live p) (insert (entry (key_at p) from) l) l
@@ -188,7 +188,7 @@ restart_from (p ∷ ps) steps places from l d s w old r c =
 
 -- what `open` tells and leaves of the used bytes of a book: its head, and its index
 pub restart : {places room : ℕ} {ps : List (List ℕ)} {b : Book} {bytes index : List ℕ} → Held places room ps b bytes index → (again : List ℕ) → b.entries ≤ capacity again
-    → (open_says (take b.used bytes) again ≡ opened.Done (book_of b.used b.entries)) × (open_index (take b.used bytes) again ≡ sets again 0 (take b.entries index))
+    → (open_says (take b.used bytes) again ≡ Ok (book_of b.used b.entries)) × (open_index (take b.used bytes) again ≡ sets again 0 (take b.entries index))
 unfolding open_says open_index opening
 restart {places} {room} {ps} {b} {bytes} {index} h again c =
     let l = take b.used bytes in
@@ -200,4 +200,4 @@ restart {places} {room} {ps} {b} {bytes} {index} h again c =
     ∙ restart_from ps (length (joined ps)) (capacity again) 0 [] h.sound (omega arith) (omega (arith, used_is h, h.used_fit, few h)) (λ y i. absurd i)
     (subst Rising (sym (gathered-placed 0 ps)) h.rising) (omega (arith, ap length (gathered-placed 0 ps)))
     ∙ ap done (gathered-placed 0 ps ∙ sym h.index_is) in
-    (ap (opened_by (length (take b.used bytes))) all ∙ ap₂ (λ (x y : ℕ). opened.Done (book_of x y)) long (entries_are h), ap (left_by again) all)
+    (ap (opened_by (length (take b.used bytes))) all ∙ ap₂ (λ (x y : ℕ). Ok (book_of x y)) long (entries_are h), ap (left_by again) all)

@@ -9,10 +9,10 @@ ghost use Rattle.book.specs.Says.{capacity};
 ghost use Rattle.book.specs.Open.{open_says, open_index};
 ghost use Rattle.book_open.specs.Opens.{Gathered};
 
-use book::{Book, Entered, Opened};
+use book::{Book, NotEntered, NotOpened};
 
 // The pieces one after another, their places gathered in the room, of which so many can be used.
-fn gather(bytes: &[u8], places: usize, room: &mut [u64]) -> Opened
+fn gather(bytes: &[u8], places: usize, room: &mut [u64]) -> Result<Book, NotOpened>
     requires { places ≤ length room.old }
     ensures { Gathered bytes.now places result room.new }
 {
@@ -21,25 +21,17 @@ fn gather(bytes: &[u8], places: usize, room: &mut [u64]) -> Opened
     let mut n: usize = 0;
     while at < end {
         let rest = &bytes[at..];
-        let size = steps::piece(rest, at);
-        if size == 0 {
-            return Opened::Bad(at);
-        }
-        let step = steps::enter(rest, at, places, n, room);
-        match step {
-            Entered::More(m) => {
-                n = m;
-            }
-            Entered::Again => {
-                return Opened::Bad(at);
-            }
-            Entered::Full => {
-                return Opened::Full;
-            }
+        let Some(size) = steps::piece(rest, at) else {
+            return Err(NotOpened::Bad(at));
+        };
+        match steps::enter(rest, at, places, n, room) {
+            Ok(m) => n = m,
+            Err(NotEntered::Again) => return Err(NotOpened::Bad(at)),
+            Err(NotEntered::Full) => return Err(NotOpened::Full),
         }
         at += size;
     }
-    Opened::Done(Book {
+    Ok(Book {
         used: end,
         entries: n,
     })
@@ -47,17 +39,12 @@ fn gather(bytes: &[u8], places: usize, room: &mut [u64]) -> Opened
 
 // Opens a book from its used bytes: works the index out afresh and gives the head. Refuses with 53 and, as its place, the start of the first piece that is no accepted or removed sheet
 // or whose kind, size and source are there already; with 40 where the index is too short; and then changes nothing. A removed sheet is known by its version and its length.
-pub fn open(bytes: &[u8], index: &mut [u64]) -> Opened
+pub fn open(bytes: &[u8], index: &mut [u64]) -> Result<Book, NotOpened>
     ensures { (result ≡ open_says bytes.now index.old) × (index.new ≡ open_index bytes.now index.old) }
 {
     let mut room = [0u64; 256];
-    let places = book_keys::lesser(256, index.len());
-    let made = gather(bytes, places, &mut room);
-    let b = made.book(Book {
-        used: 0,
-        entries: 0,
-    });
-    let n = b.entries;
-    steps::keep(&room, n, index);
-    made
+    let places = index.len().min(256);
+    let book = gather(bytes, places, &mut room)?;
+    steps::keep(&room, book.entries, index);
+    Ok(book)
 }

@@ -1,75 +1,72 @@
 // One piece of a book, and its place put into the index.
-ghost use Rattle.std.specs.Prelude.{◌≡◌, Bool, ◌<◌, ◌≤◌, length, take};
+ghost use Rattle.std.specs.Prelude.{◌≡◌, ◌<◌, ◌≤◌, length, take, MatchOption};
 ghost use Rattle.std.proofs.lemmas.List.Edits.{sets};
 ghost use Rattle.book.specs.Open as specs;
 ghost use Rattle.book_open.specs.Needs.{Enterable, Kept, fine};
 
-use book::Entered;
-use sheet::Reading;
+use book::NotEntered;
 
 // Whether the first n bytes are a sheet of either version.
 fn accepted(rest: &[u8], n: usize) -> bool
     requires { n ≤ length rest.now }
     ensures { result ≡ fine (take n rest.now) }
 {
-    let checked = sheet_check::check_either(&rest[..n]);
-    let read = checked.reading;
-    match read {
-        Reading::Fan(_, _, _) => true,
-        Reading::Refused(_) => false,
-    }
+    sheet_check::check_either(&rest[..n]).is_ok()
 }
 
-// The length of the piece that the bytes begin with, which stand at the place `at`, and 0 where they begin with none.
-pub fn piece(rest: &[u8], at: usize) -> usize
+// The length of the piece that the bytes begin with, which stand at the place `at`.
+pub fn piece(rest: &[u8], at: usize) -> Option<usize>
     requires { at ≤ 65536 }
-    ensures { result ≡ specs.piece_length at rest.now }
+    ensures { MatchOption result (specs.piece_length at rest.now ≡ 0) (λ n. (n ≡ specs.piece_length at rest.now) × (0 < n)) }
 {
     let room = rest.len();
     if room < 16 {
-        return 0;
+        return None;
     }
     let n = 4 + octets::number(rest, 0, 4) as usize;
     if n < 16 {
-        return 0;
+        return None;
     }
     if room < n {
-        return 0;
+        return None;
     }
     if 65536 < at + n {
-        return 0;
+        return None;
     }
     if rest[4] == 0 {
-        return n;
+        return Some(n);
     }
-    if accepted(rest, n) {
-        return n;
-    }
-    0
+    if accepted(rest, n) { Some(n) } else { None }
 }
 
 // Puts the place of the piece that the bytes begin with into the first n places of the room, where it is live.
-pub fn enter(rest: &[u8], at: usize, places: usize, n: usize, room: &mut [u64]) -> Entered
+pub fn enter(
+    rest: &[u8],
+    at: usize,
+    places: usize,
+    n: usize,
+    room: &mut [u64],
+) -> Result<usize, NotEntered>
     requires { Enterable rest.now at places n room.old }
     ensures { Kept rest.now at places n room.old result room.new }
 {
     if rest[4] == 0 {
-        return Entered::More(n);
+        return Ok(n);
     }
     let k = book_keys::key(
-        rest[5] as u64,
-        rest[6] as u64,
+        u64::from(rest[5]),
+        u64::from(rest[6]),
         octets::number_eight(rest, 8),
     );
     let i = book_parts::place(room, n, k * 65536);
     if book_keys::there(room, n, i, k) {
-        return Entered::Again;
+        return Err(NotEntered::Again);
     }
     if places <= n {
-        return Entered::Full;
+        return Err(NotEntered::Full);
     }
     book_parts::insert(room, i, n, k * 65536 + at as u64);
-    Entered::More(n + 1)
+    Ok(n + 1)
 }
 
 // The first n places of the room, put into the index.
@@ -77,9 +74,5 @@ pub fn keep(room: &[u64], n: usize, index: &mut [u64])
     requires { (n ≤ length room.now) × (n ≤ length index.old) }
     ensures { index.new ≡ sets index.old 0 (take n room.now) }
 {
-    let mut q: usize = 0;
-    while q < n {
-        index[q] = room[q];
-        q += 1;
-    }
+    index[..n].copy_from_slice(&room[..n]);
 }

@@ -8,6 +8,7 @@ ghost use Rattle.book_parts.specs.Place as search;
 ghost use Rattle.book_parts.specs.Moved.{opened, closed};
 
 // How many of the first n numbers are below x, where they ascend: by halves.
+// Stays: std's `partition_point` says nothing of numbers that do not ascend, and what is told of a book is told of any index that is lent (`place` in the specs).
 pub fn place(index: &[u64], n: usize, x: u64) -> usize
     requires { n ≤ length index.now }
     ensures { result ≡ search.place index.now 0 n x }
@@ -31,15 +32,8 @@ pub fn insert(index: &mut [u64], i: usize, n: usize, x: u64)
     requires { (i ≤ n) × (n < length index.old) }
     ensures { index.new ≡ opened index.old i n x }
 {
-    let count = n - i;
-    let mut carry = x;
-    let mut q: usize = 0;
-    while q <= count {
-        let old = index[i + q];
-        index[i + q] = carry;
-        carry = old;
-        q += 1;
-    }
+    index.copy_within(i..n, i + 1);
+    index[i] = x;
 }
 
 // Takes place i out of the first n; those after it move down by one, and the last place stays as it was.
@@ -47,12 +41,7 @@ pub fn take_out(index: &mut [u64], i: usize, n: usize)
     requires { (i < n) × (n ≤ length index.old) }
     ensures { index.new ≡ closed index.old i n }
 {
-    let count = n - 1 - i;
-    let mut q: usize = 0;
-    while q < count {
-        index[i + q] = index[i + q + 1];
-        q += 1;
-    }
+    index.copy_within(i + 1..n, i);
 }
 
 // Copies the bytes to the place `at` and those after it.
@@ -60,10 +49,5 @@ pub fn copy(bytes: &[u8], at: usize, out: &mut [u8])
     requires { at + length bytes.now ≤ length out.old }
     ensures { out.new ≡ sets out.old at bytes.now }
 {
-    let n = bytes.len();
-    let mut q: usize = 0;
-    while q < n {
-        out[at + q] = bytes[q];
-        q += 1;
-    }
+    out[at..at + bytes.len()].copy_from_slice(bytes);
 }

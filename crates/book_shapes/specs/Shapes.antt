@@ -3,10 +3,7 @@ use Rattle.std.specs.Prelude.{ℕ, ◌≡◌}
 use Rattle.std.proofs.Common.{ap, ap₂, ◌∙◌}
 use Rattle.book.specs.Told.{added_number, added_path, added_place, added_book, found_number, found_start, found_length, removed_number, removed_book, opened_number, opened_place, opened_book}
 use Rattle.book.specs.declared.Book.{Book}
-use Rattle.book.specs.declared.Added.{Added}
-use Rattle.book.specs.declared.Found.{Found}
-use Rattle.book.specs.declared.Removed.{Removed}
-use Rattle.book.specs.declared.Opened.{Opened}
+use Rattle.book.specs.Types.{Added, MaybeFound, Opened, Removed}
 use Rattle.book_shapes.specs.declared.GustBooked.{GustBooked}
 use Rattle.book_shapes.specs.declared.GustFound.{GustFound}
 
@@ -22,7 +19,7 @@ removed_in m was = booked (removed_number m) 0 0 (removed_book m was)
 abbrev pub opened_in : Opened → Book → GustBooked
 opened_in o was = booked (opened_number o) 0 (opened_place o) (opened_book o was)
 
-abbrev pub found_in : Found → GustFound
+abbrev pub found_in : MaybeFound → GustFound
 found_in f = record { number = found_number f; start = found_start f; length = found_length f }
 
 -- equal fields

@@ -1,16 +1,15 @@
 -- What flaws and the answers of the writer and the reader tell: the specification's number, path and place, and what comes beside them
 -- (`flaw_number`, `flaw_path`, `flaw_place`, `written_told`, `reading_told`); flaws in their order, what a lone path is (`lone`), and what a lent slice holds where a flaw stands against it.
 -- Assumes nothing.
-use Rattle.std.specs.Prelude.{ℕ, Bool, false, eqb}
+use Rattle.std.specs.Prelude.{ℕ, Bool, false, eqb, Result, Ok, Err}
 use Rattle.std.proofs.Math.Option.{Option, none, some}
 use Rattle.scan.specs.Scan.{pick}
 use Rattle.mesh.specs.Kinds.{TWO}
 use Rattle.sheet.specs.declared.Flaw.{Flaw}
 use Rattle.sheet.specs.declared.Flaw.TheVariants as flaw
-use Rattle.sheet.specs.declared.Written.{Written}
-use Rattle.sheet.specs.declared.Written.TheVariants as written
-use Rattle.sheet.specs.declared.Reading.{Reading}
-use Rattle.sheet.specs.declared.Reading.TheVariants as reading
+use Rattle.sheet.specs.declared.Head.{Head}
+use Rattle.sheet.specs.declared.Version.{Version}
+use Rattle.sheet.specs.declared.Version.TheVariants.{One, Two}
 use Rattle.sheet.specs.declared.Versioned.{Versioned}
 
 abbrev pub flaw_number : Flaw → ℕ
@@ -75,6 +74,11 @@ abbrev pub before : Option Flaw → Option Flaw → Option Flaw
 before none rest = rest
 before (some f) rest = some f
 
+-- what stands against a call, or nothing
+abbrev pub flaw_of : {T : Type 0} → Result T Flaw → Option Flaw
+flaw_of (Ok x) = none
+flaw_of (Err f) = some f
+
 -- the one where nothing stands against it, else the other
 abbrev pub settled : {A : Type 0} → Option Flaw → A → A → A
 settled none a b = a
@@ -106,9 +110,9 @@ abbrev pub tell_written : Option Flaw → ℕ → WriteTold
 tell_written none n = wrote 0 0 0 n
 tell_written (some f) n = wrote (flaw_number f) (flaw_path f) (flaw_place f) 0
 
-abbrev pub written_told : Written → WriteTold
-written_told (written.Bytes n) = tell_written none n
-written_told (written.Refused f) = tell_written (some f) 0
+abbrev pub written_told : Result ℕ Flaw → WriteTold
+written_told (Ok n) = tell_written none n
+written_told (Err f) = tell_written (some f) 0
 
 -- ---- the reader
 
@@ -141,11 +145,27 @@ abbrev pub tell_read : Option Flaw → (kind size source k : ℕ) → ReadTold
 tell_read none kind size s k = reads 0 0 0 kind size s k
 tell_read (some f) kind size s k = reads (flaw_number f) (flaw_path f) (flaw_place f) 0 0 0 0
 
-abbrev pub reading_told : Reading → ReadTold
-reading_told (reading.Fan m s k) = tell_read none m.kind m.size s k
-reading_told (reading.Refused f) = tell_read (some f) 0 0 0 0
+abbrev pub reading_told : Result Head Flaw → ReadTold
+reading_told (Ok h) = tell_read none h.mesh.kind h.mesh.size h.source h.paths
+reading_told (Err f) = tell_read (some f) 0 0 0 0
 
--- a reading with the version of the sheet, and with 0 of a refusal
-abbrev pub with_version : ℕ → Reading → Versioned
-with_version v (reading.Fan m s k) = record { version = v; reading = reading.Fan m s k }
-with_version v (reading.Refused f) = record { version = 0; reading = reading.Refused f }
+-- ---- the version
+
+abbrev pub version_number : Version → ℕ
+version_number One = 1
+version_number Two = 2
+
+-- its number, and 0 of a refusal
+abbrev pub version_told : Result Versioned Flaw → ℕ
+version_told (Ok x) = version_number x.version
+version_told (Err f) = 0
+
+-- the same without the version
+abbrev pub head_told : Result Versioned Flaw → Result Head Flaw
+head_told (Ok x) = Ok x.head
+head_told (Err f) = Err f
+
+-- and a reading with it
+abbrev pub with_version : Version → Result Head Flaw → Result Versioned Flaw
+with_version v (Ok h) = Ok (record { version = v; head = h })
+with_version v (Err f) = Err f

@@ -5,6 +5,7 @@ ghost use Rattle.std.specs.Prelude.{◌≡◌};
 ghost use Rattle.sheet.specs.Format.{head};
 ghost use Rattle.sheet.specs.Says as says;
 
+use answers::Reason;
 use mesh::Mesh;
 
 // Why a sheet is not written or not read.
@@ -44,32 +45,37 @@ pub enum Flaw {
     Zone(usize),
 }
 
-// How many bytes the sheet takes, or why there is none.
+// The versions of sheets: the first without zones, the second with a zone for each path.
 #[derive(Clone, Copy)]
-pub enum Written {
-    Bytes(usize),
-    Refused(Flaw),
+pub enum Version {
+    One,
+    Two,
 }
 
-// The mesh, the source and how many paths, or why it is no sheet.
+// What the head of a sheet tells: the mesh, the source and how many paths.
 #[derive(Clone, Copy)]
-pub enum Reading {
-    Fan(Mesh, u64, usize),
-    Refused(Flaw),
+pub struct Head {
+    pub mesh: Mesh,
+    pub source: u64,
+    pub paths: usize,
 }
 
-// The version of a sheet, which is 0 of a refusal, and what is read of it.
+// The same of a sheet of either version, with its own.
 #[derive(Clone, Copy)]
 pub struct Versioned {
-    pub version: u64,
-    pub reading: Reading,
+    pub version: Version,
+    pub head: Head,
 }
 
-impl Flaw {
+impl Reason for Flaw {
+    ghost number_told = { says.flaw_number };
+
+    ghost path_told = { says.flaw_path };
+
+    ghost place_told = { says.flaw_place };
+
     // The specification's number: `Flaw::LeftOver.number()` is 36.
-    pub fn number(self) -> u64
-        ensures { result ≡ says.flaw_number self }
-    {
+    fn number(self) -> u64 {
         match self {
             Flaw::Cut => 30,
             Flaw::Version => 31,
@@ -91,155 +97,71 @@ impl Flaw {
     }
 
     // The path that 22, 24, 34 and 38 tell, and 0 of all else: of `Flaw::NotLinked(1, 3)` it is 1.
-    pub fn path(self) -> usize
-        ensures { result ≡ says.flaw_path self }
-    {
+    fn path(self) -> usize {
         match self {
-            Flaw::Cut => 0,
-            Flaw::Version => 0,
-            Flaw::NoMesh => 0,
-            Flaw::Paths => 0,
-            Flaw::Lone => 0,
-            Flaw::NoRoom => 0,
             Flaw::Hops(i) => i,
-            Flaw::NotAFan => 0,
-            Flaw::LeftOver => 0,
-            Flaw::SourceOut => 0,
-            Flaw::TargetOut(_) => 0,
-            Flaw::TargetIsSource(_) => 0,
-            Flaw::TargetAgain(_) => 0,
             Flaw::NotLinked(i, _) => i,
             Flaw::SeenAgain(i, _) => i,
             Flaw::Zone(i) => i,
+            _ => 0,
         }
     }
 
     // The place that 5, 6, 7, 22 and 24 tell, and 0 of all else: of `Flaw::NotLinked(1, 3)` it is 3.
-    pub fn place(self) -> usize
-        ensures { result ≡ says.flaw_place self }
-    {
+    fn place(self) -> usize {
         match self {
-            Flaw::Cut => 0,
-            Flaw::Version => 0,
-            Flaw::NoMesh => 0,
-            Flaw::Paths => 0,
-            Flaw::Lone => 0,
-            Flaw::NoRoom => 0,
-            Flaw::Hops(_) => 0,
-            Flaw::NotAFan => 0,
-            Flaw::LeftOver => 0,
-            Flaw::SourceOut => 0,
             Flaw::TargetOut(p) => p,
             Flaw::TargetIsSource(p) => p,
             Flaw::TargetAgain(p) => p,
             Flaw::NotLinked(_, p) => p,
             Flaw::SeenAgain(_, p) => p,
-            Flaw::Zone(_) => 0,
+            _ => 0,
         }
     }
 }
 
-impl Written {
-    // 0, or the number of what stands against it.
+impl Version {
+    // The number that stands in a sheet of this version.
     pub fn number(self) -> u64
-        ensures { result ≡ says.written_number (says.written_told self) }
+        ensures { result ≡ says.version_number self }
     {
         match self {
-            Written::Bytes(_) => 0,
-            Written::Refused(f) => f.number(),
-        }
-    }
-
-    // The path that 38 tells, and those that the reader's numbers do; 0 of all else.
-    pub fn path(self) -> usize
-        ensures { result ≡ says.written_path (says.written_told self) }
-    {
-        match self {
-            Written::Bytes(_) => 0,
-            Written::Refused(f) => f.path(),
-        }
-    }
-
-    // The place that the reader's numbers tell, where a sheet that is read is written again; 0 of all else.
-    pub fn place(self) -> usize
-        ensures { result ≡ says.written_place (says.written_told self) }
-    {
-        match self {
-            Written::Bytes(_) => 0,
-            Written::Refused(f) => f.place(),
-        }
-    }
-
-    // How many bytes the sheet takes, and 0 of a refusal.
-    pub fn bytes(self) -> usize
-        ensures { result ≡ says.written_bytes (says.written_told self) }
-    {
-        match self {
-            Written::Bytes(n) => n,
-            Written::Refused(_) => 0,
+            Version::One => 1,
+            Version::Two => 2,
         }
     }
 }
 
-impl Reading {
-    // 0, or the number of what stands against it.
-    pub fn number(self) -> u64
-        ensures { result ≡ says.read_number (says.reading_told self) }
-    {
-        match self {
-            Reading::Fan(_, _, _) => 0,
-            Reading::Refused(f) => f.number(),
-        }
-    }
+// How many bytes the sheet takes that is written, and 0 of a refusal.
+pub fn bytes(written: Result<usize, Flaw>) -> usize
+    ensures { result ≡ says.written_bytes (says.written_told written) }
+{
+    written.unwrap_or(0)
+}
 
-    // The path that 22, 24 and 34 tell, and 0 of all else.
-    pub fn path(self) -> usize
-        ensures { result ≡ says.read_path (says.reading_told self) }
-    {
-        match self {
-            Reading::Fan(_, _, _) => 0,
-            Reading::Refused(f) => f.path(),
-        }
+// What is read, and kind, size, source and number of paths 0 of a refusal.
+pub fn told(read: Result<Head, Flaw>) -> Head
+    ensures mesh { (result.mesh.kind ≡ says.read_kind (says.reading_told read)) × (result.mesh.size ≡ says.read_size (says.reading_told read)) }
+    ensures source { result.source ≡ says.read_source (says.reading_told read) }
+    ensures paths { result.paths ≡ says.read_count (says.reading_told read) }
+{
+    match read {
+        Ok(head) => head,
+        Err(_) => Head {
+            mesh: Mesh { kind: 0, size: 0 },
+            source: 0,
+            paths: 0,
+        },
     }
+}
 
-    // The place that 5, 6, 7, 22 and 24 tell, and 0 of all else.
-    pub fn place(self) -> usize
-        ensures { result ≡ says.read_place (says.reading_told self) }
-    {
-        match self {
-            Reading::Fan(_, _, _) => 0,
-            Reading::Refused(f) => f.place(),
-        }
-    }
-
-    // The mesh, and kind 0 and size 0 of a refusal.
-    pub fn mesh(self) -> Mesh
-        ensures { (result.kind ≡ says.read_kind (says.reading_told self)) × (result.size ≡ says.read_size (says.reading_told self)) }
-    {
-        match self {
-            Reading::Fan(mesh, _, _) => mesh,
-            Reading::Refused(_) => Mesh { kind: 0, size: 0 },
-        }
-    }
-
-    // The source, and 0 of a refusal.
-    pub fn source(self) -> u64
-        ensures { result ≡ says.read_source (says.reading_told self) }
-    {
-        match self {
-            Reading::Fan(_, source, _) => source,
-            Reading::Refused(_) => 0,
-        }
-    }
-
-    // How many paths, and 0 of a refusal.
-    pub fn paths(self) -> usize
-        ensures { result ≡ says.read_count (says.reading_told self) }
-    {
-        match self {
-            Reading::Fan(_, _, k) => k,
-            Reading::Refused(_) => 0,
-        }
+// The number of the version that is read, and 0 of a refusal.
+pub fn version_told(read: Result<Versioned, Flaw>) -> u64
+    ensures { result ≡ says.version_told read }
+{
+    match read {
+        Ok(sheet) => sheet.version.number(),
+        Err(_) => 0,
     }
 }
 
@@ -247,34 +169,21 @@ impl Reading {
 pub fn lone(kind: u64, k: usize) -> bool
     ensures { result ≡ says.lone kind k }
 {
-    if kind == 2 {
-        return k == 1;
-    }
-    false
+    kind == 2 && k == 1
 }
 
 // The bytes of a path before its relays: its hops, and in version 2 its zone.
+// Stays: the version is a number, not a `Version`, since `sheet_check::check_in` promises what it tells of any (`check_against`).
 pub fn head_bytes(version: u64) -> usize
     ensures { result ≡ head version }
 {
-    if version == 2 {
-        return 6;
-    }
-    2
+    if version == 2 { 6 } else { 2 }
 }
 
-// A reading with the version of the sheet that was read, and with 0 where it is refused.
-pub fn with_version(version: u64, reading: Reading) -> Versioned
-    ensures { result ≡ says.with_version version reading }
+// What was read of a sheet of that version, with the version.
+pub fn with_version(version: Version, read: Result<Head, Flaw>) -> Result<Versioned, Flaw>
+    ensures { result ≡ says.with_version version read }
 {
-    match reading {
-        Reading::Fan(mesh, source, k) => Versioned {
-            version: version,
-            reading: Reading::Fan(mesh, source, k),
-        },
-        Reading::Refused(f) => Versioned {
-            version: 0,
-            reading: Reading::Refused(f),
-        },
-    }
+    let head = read?;
+    Ok(Versioned { version, head })
 }

@@ -1,6 +1,6 @@
 -- What a head with nothing wrong says of its sheet (`head_bodied`, and `body-known` to `body_small`), and what is wrong with a head is told of the
 -- sheet (`head-flawed`). Assumes nothing.
-use Rattle.std.specs.Prelude.{ℕ, ◌-◌, ◌≤◌, ◌≡◌, refl, true, false, not, ◌≢◌, List, eqb, ltb, length}
+use Rattle.std.specs.Prelude.{ℕ, ◌-◌, ◌≤◌, ◌≡◌, refl, true, false, not, ◌≢◌, List, eqb, ltb, length, Ok, Err}
 use Rattle.std.proofs.Common.{sym, ap, ap₂, ◌∙◌, arith, ltb-false}
 use Rattle.std.proofs.Math.Option.{Option, none, some}
 use Rattle.std.proofs.lemmas.Bool.{eqb-false, not-false}
@@ -9,33 +9,31 @@ use Rattle.mesh.specs.Kinds.{mesh_of, known, planned}
 use Rattle.mesh.specs.Laws.{planned-known}
 use Rattle.mesh.specs.Limits.{known-width}
 use Rattle.mesh.specs.Requests.{neither_wanting}
-use Rattle.mesh.specs.declared.Mesh as code
 use Rattle.sheet.specs.Format.{HEAD, length_at, version_at, kind_at, size_at, count_at}
-use Rattle.sheet.specs.Says.{flaw_number, before, reads, read_number, read_kind, read_size, read_source, read_count, reading_told}
+use Rattle.sheet.specs.Says.{flaw_number, before, read_number, read_kind, read_size, read_source, read_count, reading_told}
 use Rattle.sheet.specs.Flaws.{flaw_some, flawed-none}
 use Rattle.sheet.specs.declared.Flaw.{Flaw}
+use Rattle.sheet.specs.declared.Head.{Head}
 use Rattle.sheet.specs.declared.Flaw.TheVariants as flaw
 use Rattle.sheet_check.specs.Says.{cut, bad_count, mesh_at, head_against, paths_against, check_against, sheet_told}
 use Rattle.sheet_check.specs.Needs.{Bodied}
 use Rattle.sheet_check.specs.Told.{told_flaw}
-use Rattle.sheet.specs.declared.Reading.{Reading}
-use Rattle.sheet.specs.declared.Reading.TheVariants as reading
 
 module _ (v : ℕ) (l : List ℕ) where
   -- the head is read
-  pub head_bodied : {m : code.Mesh} {s k : ℕ} {r : Reading} → r ≡ reading.Fan m s k → reading_told r ≡ sheet_told l (head_against v l) → Bodied v l m.kind m.size s k
-  head_bodied {m} {s} {k} e t = go (head_against v l) refl (sym (ap reading_told e) ∙ t)
+  pub head_bodied : (h : Head) → reading_told (Ok h) ≡ sheet_told l (head_against v l) → Bodied v l h.mesh.kind h.mesh.size h.source h.paths
+  head_bodied h t = go (head_against v l) refl t
     where
-      go : (o : Option Flaw) → head_against v l ≡ o → reads 0 0 0 m.kind m.size s k ≡ sheet_told l o → Bodied v l m.kind m.size s k
-      go none h g = record { head = h; kind_is = ap read_kind g; size_is = ap read_size g; source_is = ap read_source g; count_is = ap read_count g }
-      go (some f) h g = absurd (eqb-false (flaw_number f) 0 (flaw_some f) (sym (ap read_number g)))
+      go : (o : Option Flaw) → head_against v l ≡ o → reading_told (Ok h) ≡ sheet_told l o → Bodied v l h.mesh.kind h.mesh.size h.source h.paths
+      go none e g = record { head = e; kind_is = ap read_kind g; size_is = ap read_size g; source_is = ap read_source g; count_is = ap read_count g }
+      go (some f) e g = absurd (eqb-false (flaw_number f) 0 (flaw_some f) (sym (ap read_number g)))
 
   -- what is wrong with the head
-  pub head_flaw : {f : Flaw} {r : Reading} → r ≡ reading.Refused f → reading_told r ≡ sheet_told l (head_against v l) → some f ≡ head_against v l
-  head_flaw e t = told_flaw l (head_against v l) (sym (ap reading_told e) ∙ t)
+  pub head_flaw : {f : Flaw} → reading_told (Err f) ≡ sheet_told l (head_against v l) → some f ≡ head_against v l
+  head_flaw {f} t = told_flaw l (head_against v l) {f = f} t
 
-  pub head-flawed : {f : Flaw} {r : Reading} → r ≡ reading.Refused f → reading_told r ≡ sheet_told l (head_against v l) → reading_told (reading.Refused f) ≡ sheet_told l (check_against v l)
-  head-flawed e t = ap (λ (o : Option Flaw). sheet_told l (before o (paths_against v l))) (head_flaw e t)
+  pub head-flawed : (f : Flaw) → reading_told (Err f) ≡ sheet_told l (head_against v l) → reading_told (Err f) ≡ sheet_told l (check_against v l)
+  head-flawed f t = ap (λ (o : Option Flaw). sheet_told l (before o (paths_against v l))) (head_flaw {f = f} t)
 
 -- ---- what a head with nothing wrong says
 
@@ -76,7 +74,3 @@ module _ {v : ℕ} {l : List ℕ} {kind size s k : ℕ} (b : Bodied v l kind siz
 
     pub body_small : w - 1 ≤ 206
     body_small = omega (arith, e, known-width kind size body-known)
-
-  -- what is told of the paths is told of the sheet
-  pub body_checked : (r : Reading) → reading_told r ≡ sheet_told l (paths_against v l) → reading_told r ≡ sheet_told l (check_against v l)
-  body_checked r t = t ∙ ap (λ (o : Option Flaw). sheet_told l (before o (paths_against v l))) (sym b.head)

@@ -1,14 +1,31 @@
 -- The judge sees the paths of the sheet (`judged-sheet`). Assumes nothing.
-use Rattle.std.specs.Prelude.{ℕ, ◌+◌, ◌*◌, ◌≡◌, false, List, length, take}
-use Rattle.std.proofs.Common.{ap, ap₂, ◌∙◌}
+use Rattle.std.specs.Prelude.{ℕ, ◌+◌, ◌*◌, ◌≡◌, ◌≢◌, Bool, false, List, length, take}
+use Rattle.std.proofs.Common.{sym, ap, ap₂, ◌∙◌, refl}
+use Rattle.std.proofs.Math.Option.{none, some}
+use Rattle.scan.specs.Scan.{pick}
 use Rattle.mesh.specs.Kinds.{kind_of}
-use Rattle.judge.specs.Says.{Ruling, judge_told}
+use Rattle.answers.specs.Laws.{number-some}
+use Rattle.answers.specs.Told.{number, place}
+use Rattle.judge.specs.Says.{Ruling, ruling, fault_told, judge_told}
+use Rattle.judge.specs.declared.Fault.{Fault}
+use Rattle.judge.specs.declared.Fault.TheVariants as fault
+use Rattle.judge.specs.declared.Finding.TheVariants.{TooLong, NotFromSource, NotLinked, NotToTarget, SeenAgain, NotFilled}
 use Rattle.sheet.specs.Format.{HEAD, paths_at, places_of, counts_of, targets_of}
 use Rattle.sheet.specs.Lengths.{paths-length, counts-length, targets-length}
 use Rattle.sheet.specs.Pieces.{front}
 use Rattle.sheet_take.specs.Says.{TakenPaths}
-use Rattle.sheet_check.specs.Says.{ruling_of}
+use Rattle.sheet_check.specs.Says.{ruling_of, flaw_in, ruled}
 use Rattle.sheet_check.specs.Needs.{Judgeable}
+
+-- a fault is told as what its ruling is
+pub fault_ruled : (f : Fault) → some (flaw_in (fault_told f)) ≡ ruled (fault_told f)
+fault_ruled (fault.Found (TooLong i)) = refl
+fault_ruled (fault.Found (NotFromSource i)) = refl
+fault_ruled (fault.Found (NotLinked i p)) = refl
+fault_ruled (fault.Found (NotToTarget i p)) = refl
+fault_ruled (fault.Found (SeenAgain i p)) = refl
+fault_ruled (fault.Found (NotFilled i p)) = refl
+fault_ruled (fault.Refused why) = ap (λ (b : Bool). pick b none (some (flaw_in (ruling (number why) 0 (place why))))) (sym (number-some why))
 
 pub judged-sheet : (v : ℕ) (l : List ℕ) (kind size s longest k : ℕ) {places counts targets places₁ counts₁ targets₁ : List ℕ} {r : Ruling}
     → Judgeable v l kind size longest k (length places) (length counts) (length targets) → TakenPaths v l s longest k places counts targets places₁ counts₁ targets₁

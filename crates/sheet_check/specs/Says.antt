@@ -1,13 +1,13 @@
 -- What the check of a sheet of version v tells: what stands against it in its order (`head_against`, `paths_against`, together `check_against`), and else the mesh, the
 -- source and how many paths (`sheet_told`); and what is told of a sheet of either version (`Told`). Assumes nothing.
-use Rattle.std.specs.Prelude.{ℕ, ◌-◌, ◌≡◌, Bool, true, false, not, List, eqb, ltb, length}
+use Rattle.std.specs.Prelude.{ℕ, ◌-◌, ◌≡◌, Bool, true, false, not, List, eqb, ltb, length, Result}
 use Rattle.std.proofs.Math.Option.{Option, none, some}
 use Rattle.scan.specs.Scan.{pick}
 use Rattle.paths.specs.Mesh.{Mesh}
 use Rattle.mesh.specs.Kinds.{kind_of, mesh_of, planned}
 use Rattle.judge.specs.Says.{Ruling, ruling, number_of, judge_told}
 use Rattle.sheet.specs.Format.{HEAD, length_at, version_at, version_of, kind_at, size_at, count_at, source_at, paths_at, zones_at, places_of, counts_of, targets_of}
-use Rattle.sheet.specs.Says.{flawed, before, settled, lone, ReadTold, tell_read, reading_told}
+use Rattle.sheet.specs.Says.{flawed, before, settled, lone, ReadTold, tell_read, reading_told, version_told, head_told}
 use Rattle.sheet.specs.declared.Flaw.{Flaw}
 use Rattle.sheet.specs.declared.Flaw.TheVariants as flaw
 use Rattle.sheet.specs.declared.Versioned.{Versioned}
@@ -89,6 +89,6 @@ module _ (v : ℕ) (l : List ℕ) where
   check_against = before head_against paths_against
 
 -- what is told of a sheet of either version: its own, and what the reader of that version tells
-pub record Told (l : List ℕ) (against : Option Flaw) (r : Versioned) : Type 0 where
-  pub version_is : r.version ≡ settled against (version_of l) 0
-  pub told : reading_told r.reading ≡ sheet_told l against
+pub record Told (l : List ℕ) (against : Option Flaw) (r : Result Versioned Flaw) : Type 0 where
+  pub version_is : version_told r ≡ settled against (version_of l) 0
+  pub told : reading_told (head_told r) ≡ sheet_told l against

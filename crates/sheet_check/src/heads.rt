@@ -2,63 +2,59 @@
 ghost use Rattle.std.specs.Prelude.{◌≡◌, true};
 ghost use Rattle.mesh.specs.Kinds.{mesh_of, planned};
 ghost use Rattle.sheet.specs.Format.{version_of};
-ghost use Rattle.sheet.specs.Says.{reading_told, tell_read};
+ghost use Rattle.sheet.specs.Says.{reading_told, tell_read, version_number};
 ghost use Rattle.sheet_check.specs.Says.{sheet_told, head_against, count_against};
 
 use mesh::Mesh;
-use sheet::{Flaw, Reading};
+use sheet::{Flaw, Head, Version};
 
-// The mesh, the source and how many paths, where so many can be asked for.
-fn counted(mesh: Mesh, source: u64, k: usize) -> Reading
-    requires { planned mesh.kind mesh.size ≡ true }
-    ensures { reading_told result ≡ tell_read (count_against mesh.kind (mesh_of mesh.kind mesh.size).links k) mesh.kind mesh.size source k }
+// The head, where so many paths can be asked for.
+fn counted(head: Head) -> Result<Head, Flaw>
+    requires { planned head.mesh.kind head.mesh.size ≡ true }
+    ensures { reading_told result ≡ tell_read (count_against head.mesh.kind (mesh_of head.mesh.kind head.mesh.size).links head.paths) head.mesh.kind head.mesh.size head.source head.paths }
 {
-    if k == 0 {
-        return Reading::Refused(Flaw::Paths);
+    if head.paths == 0 || mesh::links_in(head.mesh) < head.paths as u64 {
+        return Err(Flaw::Paths);
     }
-    if mesh::links_in(mesh) < k as u64 {
-        return Reading::Refused(Flaw::Paths);
+    if sheet::lone(head.mesh.kind, head.paths) {
+        return Err(Flaw::Lone);
     }
-    if sheet::lone(mesh.kind, k) {
-        return Reading::Refused(Flaw::Lone);
-    }
-    Reading::Fan(mesh, source, k)
+    Ok(head)
 }
 
 // The version to read a sheet in that may have either: 2 where it says so, else 1, which then is refused where it is not its own.
-pub fn version_of(bytes: &[u8]) -> u64
-    ensures { result ≡ version_of bytes.now }
+pub fn version_of(bytes: &[u8]) -> Version
+    ensures { version_number result ≡ version_of bytes.now }
 {
-    if bytes.len() < 5 {
-        return 1;
+    if 4 < bytes.len() && bytes[4] == 2 {
+        Version::Two
+    } else {
+        Version::One
     }
-    if bytes[4] == 2 {
-        return 2;
-    }
-    1
 }
 
 // What the first 16 bytes tell, or what is wrong with them.
-pub fn head(version: u64, bytes: &[u8]) -> Reading
+// Stays: the version is a number, as in `sheet::head_bytes`.
+pub fn head(version: u64, bytes: &[u8]) -> Result<Head, Flaw>
     ensures { reading_told result ≡ sheet_told bytes.now (head_against version bytes.now) }
 {
     let n = bytes.len();
-    if n < 16 {
-        return Reading::Refused(Flaw::Cut);
+    if n < 16 || octets::number(bytes, 0, 4) != (n - 4) as u64 {
+        return Err(Flaw::Cut);
     }
-    let told = octets::number(bytes, 0, 4);
-    if told != (n - 4) as u64 {
-        return Reading::Refused(Flaw::Cut);
-    }
-    if bytes[4] as u64 != version {
-        return Reading::Refused(Flaw::Version);
+    if u64::from(bytes[4]) != version {
+        return Err(Flaw::Version);
     }
     let mesh = Mesh {
-        kind: bytes[5] as u64,
-        size: bytes[6] as u64,
+        kind: u64::from(bytes[5]),
+        size: u64::from(bytes[6]),
     };
-    if mesh.planned() {
-        return counted(mesh, octets::number(bytes, 8, 8), bytes[7] as usize);
+    if !mesh.planned() {
+        return Err(Flaw::NoMesh);
     }
-    Reading::Refused(Flaw::NoMesh)
+    counted(Head {
+        mesh,
+        source: octets::number_eight(bytes, 8),
+        paths: usize::from(bytes[7]),
+    })
 }

@@ -1,24 +1,22 @@
 -- Main theorem `move_back`: a sheet that was moved to the other version, and is moved back, is the same bytes; so from version 1 to 2 and back (`up_down`), and from 2 to 1 and back
 -- (`down_up`). Moving on from version 1 gives each path zone 0 (`up_zones`). Assumes nothing.
-use Rattle.std.specs.Prelude.{ℕ, ◌*◌, ◌≤◌, ◌≡◌, refl, Bool, true, false, List, [], ◌++◌, ltb, length, get_or, take, drop}
-use Rattle.std.proofs.Common.{sym, ap, ap₂, ◌∙◌, subst, append-nil, arith, take_at, le-ltb, ltb-false}
-use Rattle.std.proofs.Math.Option.{Option, none, some}
+use Rattle.std.specs.Prelude.{ℕ, ◌*◌, ◌≤◌, ◌≡◌, refl, List, [], ◌++◌, length, get_or, take, drop, Result, Ok}
+use Rattle.std.proofs.Common.{sym, ap, ap₂, ◌∙◌, subst, append-nil, arith, take_at, le-ltb}
+use Rattle.std.proofs.Math.Option.{Option, none}
 use Rattle.std.proofs.Math.Seq.{take-length}
-use Rattle.scan.specs.Scan.{Spot, nowhere}
+use Rattle.scan.specs.Scan.{nowhere}
 use Rattle.octets.specs.Big.{Bytes}
 use Rattle.paths.specs.Mesh.{width}
-use Rattle.sheet.specs.Flaws.{flawed-none, before-none, none-flawed, none_before}
+use Rattle.sheet.specs.Flaws.{before-none, none-flawed, none_before}
 use Rattle.sheet.specs.Format.{VERSION, ZONED, HEAD, sheet_of, kind_at, size_at, count_at, source_at, zones_of, paths_of}
 use Rattle.sheet.specs.Lengths.{zones_length}
-use Rattle.sheet.specs.Says.{flawed, before, settled, tell_written}
+use Rattle.sheet.specs.Says.{settled, tell_written}
 use Rattle.sheet.specs.declared.Flaw.{Flaw}
 use Rattle.sheet.specs.declared.Flaw.TheVariants as flaw
-use Rattle.sheet.specs.declared.Written.{Written}
-use Rattle.sheet.specs.declared.Written.TheVariants as written
 use Rattle.sheet_put.specs.Stray.{stray_in}
 use Rattle.sheet_write.specs.Says.{stray_flaw}
-use Rattle.sheet_check.specs.Says.{mesh_at, sheet_paths, sheet_targets, sheet_places, sheet_counts, sheet_zones, head_against, paths_against, check_against}
-use Rattle.sheet_read.specs.Says.{lacking, read_against}
+use Rattle.sheet_check.specs.Says.{mesh_at, sheet_paths, sheet_targets, sheet_places, sheet_counts, sheet_zones, check_against}
+use Rattle.sheet_read.specs.Says.{read_against}
 use Rattle.sheet_trips.specs.Accepted.{Accepted, stray_none}
 use Rattle.sheet_trips.specs.Again.{sheet_again}
 use Rattle.sheet_trips.specs.Trips.{wrote_fine}
@@ -33,7 +31,7 @@ use Rattle.sheet_move.specs.Unique.{moved_unique}
 pub up_zones : (l : List ℕ) (i : ℕ) → get_or (sheet_zones VERSION l) i 0 ≡ 0
 up_zones l i = none_read VERSION l HEAD (count_at l) i refl
 
-module _ (v u : ℕ) (l : List ℕ) (b : Bytes l) (out : List ℕ) (n : ℕ) (out₁ : List ℕ) (q : Moved v u l out (written.Bytes n) out₁) where
+module _ (v u : ℕ) (l : List ℕ) (b : Bytes l) (out : List ℕ) (n : ℕ) (out₁ : List ℕ) (q : Moved v u l out (Ok n) out₁) where
   abbrev bytes : List ℕ
   bytes = moved_bytes v u l
 
@@ -95,12 +93,12 @@ module _ (v u : ℕ) (l : List ℕ) (b : Bytes l) (out : List ℕ) (n : ℕ) (ou
   unstray =
       ap₂ (stray_in v) (zones_are ∙ sym (append-nil (sheet_zones v l))) (back.count_is ∙ many) ∙ read_unstray v l HEAD (count_at l) []
 
-  pub move_back : (out₂ : List ℕ) → length l ≤ length out₂ → (r : Written) (out₃ : List ℕ) → Moved u v (take n out₁) out₂ r out₃
-      → (r ≡ written.Bytes (length l)) × (out₃ ≡ l ++ drop (length l) out₂)
+  pub move_back : (out₂ : List ℕ) → length l ≤ length out₂ → (r : Result ℕ Flaw) (out₃ : List ℕ) → Moved u v (take n out₁) out₂ r out₃
+      → (r ≡ Ok (length l)) × (out₃ ≡ l ++ drop (length l) out₂)
   move_back out₂ h r out₃ p =
       let nothing : moves_against u v bytes out₂ ≡ none
       = none_before checked (none_before (ap stray_flaw unstray) (none-flawed flaw.NoRoom (le-ltb (length out₂) (length (moved_bytes u v bytes)) (omega (arith, ap length again))) refl)) in
-      moved_unique u v bytes out₂ r (written.Bytes (length l)) out₃ (l ++ drop (length l) out₂)
+      moved_unique u v bytes out₂ r (Ok (length l)) out₃ (l ++ drop (length l) out₂)
       (subst (λ (x : List ℕ). Moved u v x out₂ r out₃) moved_is p)
       (record {
         told = sym (ap₂ (λ (o : Option Flaw) (x : List ℕ). tell_written o (length x)) nothing again);
@@ -108,13 +106,13 @@ module _ (v u : ℕ) (l : List ℕ) (b : Bytes l) (out : List ℕ) (n : ℕ) (ou
       })
 
 -- from version 1 to 2, and back
-pub up_down : (l : List ℕ) → Bytes l → (out : List ℕ) (n : ℕ) (out₁ : List ℕ) → Moved VERSION ZONED l out (written.Bytes n) out₁
-    → (out₂ : List ℕ) → length l ≤ length out₂ → (r : Written) (out₃ : List ℕ) → Moved ZONED VERSION (take n out₁) out₂ r out₃
-    → (r ≡ written.Bytes (length l)) × (out₃ ≡ l ++ drop (length l) out₂)
+pub up_down : (l : List ℕ) → Bytes l → (out : List ℕ) (n : ℕ) (out₁ : List ℕ) → Moved VERSION ZONED l out (Ok n) out₁
+    → (out₂ : List ℕ) → length l ≤ length out₂ → (r : Result ℕ Flaw) (out₃ : List ℕ) → Moved ZONED VERSION (take n out₁) out₂ r out₃
+    → (r ≡ Ok (length l)) × (out₃ ≡ l ++ drop (length l) out₂)
 up_down = move_back VERSION ZONED
 
 -- and from version 2 to 1, which is done where every zone is 0, and back
-pub down_up : (l : List ℕ) → Bytes l → (out : List ℕ) (n : ℕ) (out₁ : List ℕ) → Moved ZONED VERSION l out (written.Bytes n) out₁
-    → (out₂ : List ℕ) → length l ≤ length out₂ → (r : Written) (out₃ : List ℕ) → Moved VERSION ZONED (take n out₁) out₂ r out₃
-    → (r ≡ written.Bytes (length l)) × (out₃ ≡ l ++ drop (length l) out₂)
+pub down_up : (l : List ℕ) → Bytes l → (out : List ℕ) (n : ℕ) (out₁ : List ℕ) → Moved ZONED VERSION l out (Ok n) out₁
+    → (out₂ : List ℕ) → length l ≤ length out₂ → (r : Result ℕ Flaw) (out₃ : List ℕ) → Moved VERSION ZONED (take n out₁) out₂ r out₃
+    → (r ≡ Ok (length l)) × (out₃ ≡ l ++ drop (length l) out₂)
 down_up = move_back ZONED VERSION

@@ -1,35 +1,31 @@
 -- Why a move keeps its promise: what is wrong with the sheet is told (`move_flawed`), what was checked can be taken (`move_asked`, `zones_asked`) and written (`move_sheeted`), and what is
 -- written is the sheet in the other version (`move_done`). Assumes nothing.
-use Rattle.std.specs.Prelude.{ℕ, ◌+◌, ◌-◌, ◌*◌, ◌≤◌, ◌≡◌, refl, Bool, true, false, List, ◌++◌, ltb, length, drop}
+use Rattle.std.specs.Prelude.{ℕ, ◌+◌, ◌-◌, ◌*◌, ◌≤◌, ◌≡◌, Bool, true, List, ◌++◌, ltb, length, drop, Result, Ok, Err}
 use Rattle.std.proofs.Common.{sym, ap, ap₂, ◌∙◌, subst, arith, le-ltb}
-use Rattle.std.proofs.Math.Option.{Option, none, some}
+use Rattle.std.proofs.Math.Option.{Option, none}
 use Rattle.std.proofs.Math.ListN.{get_or-append}
 use Rattle.std.proofs.lemmas.List.Edits.{sets}
 use Rattle.scan.specs.Scan.{pick, Spot}
 use Rattle.paths.specs.Mesh.{Mesh, width}
-use Rattle.mesh.specs.Kinds.{kind_of, mesh_of, planned}
+use Rattle.mesh.specs.Kinds.{mesh_of}
 use Rattle.mesh.specs.Limits.{most_links, most_places}
-use Rattle.mesh.specs.Says.{short}
 use Rattle.mesh.specs.declared.Mesh as code
 use Rattle.judge.specs.Alike.{enough}
 use Rattle.sheet.specs.Flaws.{flawed-none, before-none, none-flawed, none_before}
-use Rattle.sheet.specs.Format.{HEAD, sheet_of, kind_at, size_at, count_at, source_at, paths_at, zones_at, places_of, counts_of, targets_of}
-use Rattle.sheet.specs.Lengths.{zones_length, paths-length, counts-length, targets-length}
+use Rattle.sheet.specs.Format.{HEAD, sheet_of, kind_at, size_at, count_at, source_at, zones_at}
+use Rattle.sheet.specs.Lengths.{zones_length, paths-length, counts-length}
 use Rattle.sheet.specs.Pieces.{at_front}
 use Rattle.sheet.specs.Says.{flawed, before, settled, reads, reading_told, tell_written}
 use Rattle.sheet.specs.declared.Flaw.{Flaw}
 use Rattle.sheet.specs.declared.Flaw.TheVariants as flaw
-use Rattle.sheet.specs.declared.Reading.{Reading}
-use Rattle.sheet.specs.declared.Reading.TheVariants as reading
-use Rattle.sheet.specs.declared.Written.{Written}
-use Rattle.sheet.specs.declared.Written.TheVariants as written
+use Rattle.sheet.specs.declared.Head.{Head}
 use Rattle.sheet_put.specs.Stray.{stray_in}
-use Rattle.sheet_take.specs.Needs.{Taken, Zoned}
+use Rattle.sheet_take.specs.Needs.{Zoned}
 use Rattle.sheet_take.specs.Says.{TakenPaths, looked}
 use Rattle.sheet_write.specs.Needs.{Sheeted}
 use Rattle.sheet_write.specs.Says.{stray_flaw, bytes_in, PutIn}
 use Rattle.sheet_write.specs.Writing.{judged_sheeted}
-use Rattle.sheet_check.specs.Bodied.{mesh_is, longest_is, body-known}
+use Rattle.sheet_check.specs.Bodied.{mesh_is, longest_is}
 use Rattle.sheet_check.specs.Checking.{paths_judgeable}
 use Rattle.sheet_check.specs.Needs.{Bodied}
 use Rattle.sheet_check.specs.Says.{mesh_at, sheet_paths, sheet_targets, sheet_places, sheet_counts, sheet_zones, head_against, paths_against, check_against, sheet_told}
@@ -53,9 +49,9 @@ reads_check v l p c t e =
     none_before h.0 (flawed-none (lacking l p c t) flaw.NoRoom (paths_against v l) h.1).1
 
 -- what is wrong with the sheet is told of the move
-pub move_flawed : (v u : ℕ) (l out : List ℕ) {f : Flaw} {r : Reading} → r ≡ reading.Refused f → reading_told r ≡ sheet_told l (check_against v l) → Moved v u l out (written.Refused f) out
-move_flawed v u l out {f} e t =
-    let o = told_flaw l (check_against v l) {f = f} (sym (ap reading_told e) ∙ t) in
+pub move_flawed : (v u : ℕ) (l out : List ℕ) (f : Flaw) → reading_told (Err f) ≡ sheet_told l (check_against v l) → Moved v u l out (Err f) out
+move_flawed v u l out f t =
+    let o = told_flaw l (check_against v l) {f = f} t in
     let bytes = moved_bytes v u l in
     record {
       told = ap (λ (x : Option Flaw). tell_written (before x (lay_against v u l out)) (length bytes)) o;
@@ -64,15 +60,21 @@ move_flawed v u l out {f} e t =
 
 -- ---- the sheet was checked
 
-module _ (v : ℕ) (l : List ℕ) {m : code.Mesh} {s k : ℕ} {r : Reading} (e : r ≡ reading.Fan m s k) (t : reading_told r ≡ sheet_told l (check_against v l)) where
-  told : reads 0 0 0 m.kind m.size s k ≡ sheet_told l (check_against v l)
-  told = sym (ap reading_told e) ∙ t
+module _ (v : ℕ) (l : List ℕ) (h : Head) (t : reading_told (Ok h) ≡ sheet_told l (check_against v l)) where
+  abbrev m : code.Mesh
+  m = h.mesh
+
+  abbrev s : ℕ
+  s = h.source
+
+  abbrev k : ℕ
+  k = h.paths
 
   sound : check_against v l ≡ none
-  sound = told_none l (check_against v l) {kind = m.kind} {size = m.size} {s = s} {k = k} told
+  sound = told_none l (check_against v l) {kind = m.kind} {size = m.size} {s = s} {k = k} t
 
   plain : reads 0 0 0 m.kind m.size s k ≡ reads 0 0 0 (kind_at l) (size_at l) (source_at l) (count_at l)
-  plain = told ∙ ap (sheet_told l) sound
+  plain = t ∙ ap (sheet_told l) sound
 
   pub move_bodied : Bodied v l m.kind m.size s k
   move_bodied = record {
@@ -189,7 +191,7 @@ module _ {v : ℕ} {l : List ℕ} {kind size s longest k : ℕ} (places counts t
           ∙ stray_front u (sheet_zones v l ++ lent) (sheet_zones v l) (count_at l)
           (λ i h. get_or-append (sheet_zones v l) lent 0 i (omega (arith, zones_length v l HEAD (count_at l))))
 
-      pub move_done : {out : List ℕ} {r : Written} {out₁ : List ℕ} → PutIn u zones₁ kind size s k places₁ counts₁ out r out₁ → Moved v u l out r out₁
+      pub move_done : {out : List ℕ} {r : Result ℕ Flaw} {out₁ : List ℕ} → PutIn u zones₁ kind size s k places₁ counts₁ out r out₁ → Moved v u l out r out₁
       move_done {out} p =
           let same : (o : Option Flaw) → o ≡ check_against v l → before o (lay_against v u l out) ≡ moves_against v u l out
           = λ o f. ap (λ (x : Option Flaw). before x (lay_against v u l out)) f in

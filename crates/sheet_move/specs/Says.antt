@@ -1,11 +1,10 @@
 -- What a move of a sheet from version v to version u tells, and what it leaves in the lent slice (`Moved`): the paths and zones of the sheet written in the other version. Assumes nothing.
-use Rattle.std.specs.Prelude.{ℕ, ◌≡◌, List, ◌++◌, ltb, length, drop}
+use Rattle.std.specs.Prelude.{ℕ, ◌≡◌, List, ◌++◌, ltb, length, drop, Result}
 use Rattle.std.proofs.Math.Option.{Option, none}
 use Rattle.sheet.specs.Format.{sheet_of, kind_at, size_at, count_at, source_at}
 use Rattle.sheet.specs.Says.{flawed, before, settled, tell_written, written_told}
 use Rattle.sheet.specs.declared.Flaw.{Flaw}
 use Rattle.sheet.specs.declared.Flaw.TheVariants as flaw
-use Rattle.sheet.specs.declared.Written.{Written}
 use Rattle.sheet_put.specs.Stray.{stray_in}
 use Rattle.sheet_write.specs.Says.{stray_flaw}
 use Rattle.sheet_check.specs.Says.{sheet_paths, sheet_zones, check_against}
@@ -23,6 +22,6 @@ module _ (v u : ℕ) (l : List ℕ) where
   abbrev pub moves_against : List ℕ → Option Flaw
   moves_against out = before (check_against v l) (lay_against out)
 
-  pub record Moved (out : List ℕ) (r : Written) (out₁ : List ℕ) : Type 0 where
+  pub record Moved (out : List ℕ) (r : Result ℕ Flaw) (out₁ : List ℕ) : Type 0 where
     pub told : written_told r ≡ tell_written (moves_against out) (length moved_bytes)
     pub held : out₁ ≡ settled (moves_against out) (moved_bytes ++ drop (length moved_bytes) out) out

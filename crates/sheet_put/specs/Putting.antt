@@ -92,13 +92,13 @@ module _ {v w : ℕ} {places counts zones : List ℕ} {k at : ℕ} {out₀ out :
   )
 
   pub laying_more : {h zone head₁ : ℕ} {out₁ : List ℕ} → i < k → head₁ ≡ head v → h ≡ get_or counts i 0 → zone ≡ get_or zones i 0
-      → out₁ ≡ sets out to (path_bytes v zone (ahead places (i * w + 1) h)) → Laying v w places counts zones k at out₀ out₁ (to + head₁ + h * 8) (i + 1)
+      → out₁ ≡ sets out to (path_bytes v zone (ahead places (i * w + 1) h)) → Laying v w places counts zones k at out₀ out₁ (to + (head₁ + h * 8)) (i + 1)
   unfolding hops
   laying_more {h} {zone} {head₁} {out₁} l f e z p = record {
     asked = q.asked;
     within = omega arith;
     room = q.room;
-    to_is = ap₂ (λ (x y : ℕ). to + x + y * 8) f e ∙ omega (arith, q.to_is, total-more v counts i, ap (total v counts) (add-one i));
+    to_is = ap₂ (λ (x y : ℕ). to + (x + y * 8)) f e ∙ omega (arith, q.to_is, total-more v counts i, ap (total v counts) (add-one i));
     long = ap length p ∙ length-sets out to (path_bytes v zone (ahead places (i * w + 1) h)) ∙ q.long;
     is =
         p ∙ ap₂ (λ (x y : ℕ). sets out to (path_bytes v x (ahead places (i * w + 1) y))) z e

@@ -5,22 +5,21 @@ ghost use Rattle.std.specs.Prelude.{◌≡◌, ◌+◌, ◌*◌, ◌≤◌, leng
 ghost use Rattle.std.proofs.lemmas.List.Edits.{sets};
 ghost use Rattle.paths.specs.Lists.{ahead};
 ghost use Rattle.sheet.specs.Format.{head, zone_bytes, relays_bytes, path_bytes, paths_bytes, paths_of};
+ghost use Rattle.sheet.specs.Says.{version_number};
 ghost use Rattle.sheet_put.specs.Needs.{Headed, Paths};
 ghost use Rattle.scan.specs.Scan.{spot_of};
 ghost use Rattle.sheet_put.specs.Stray.{stray_at, stray_in};
 ghost use Rattle.sheet_put.specs.Total.{total};
 
-use scan::Spot;
+use sheet::Version;
 
 // Writes n numbers of a list, from the place `from` of it on, 8 bytes each, at the place `at`.
 fn put_relays(places: &[u64], from: usize, n: usize, at: usize, out: &mut [u8])
     requires { (from + n ≤ length places.now) × (at + n * 8 ≤ length out.old) }
     ensures { out.new ≡ sets out.old at (relays_bytes (ahead places.now from n)) }
 {
-    let mut i: usize = 0;
-    while i < n {
+    for i in 0..n {
         octets::put_eight(places[from + i], at + i * 8, out);
-        i += 1;
     }
 }
 
@@ -28,25 +27,23 @@ fn put_relays(places: &[u64], from: usize, n: usize, at: usize, out: &mut [u8])
 fn zone_of(zones: &[u32], i: usize) -> u64
     ensures { result ≡ get_or zones.now i 0 }
 {
-    if i < zones.len() {
-        return zones[i] as u64;
-    }
-    0
+    zones.get(i).map_or(0, |zone| u64::from(*zone))
 }
 
 // Writes a zone at the place `at`, where the version has one.
-fn put_zone(version: u64, zone: u64, at: usize, out: &mut [u8])
-    requires { at + head version ≤ length out.old + 2 }
-    ensures { out.new ≡ sets out.old at (zone_bytes version zone) }
+fn put_zone(version: Version, zone: u64, at: usize, out: &mut [u8])
+    requires { at + head (version_number version) ≤ length out.old + 2 }
+    ensures { out.new ≡ sets out.old at (zone_bytes (version_number version) zone) }
 {
-    if version == 2 {
-        octets::put(zone, 4, at, out);
+    match version {
+        Version::One => {}
+        Version::Two => octets::put(zone, 4, at, out),
     }
 }
 
 // Writes the path of h hops whose relays after the source stand in the places from `from` on.
 fn put_path(
-    version: u64,
+    version: Version,
     zone: u64,
     places: &[u64],
     from: usize,
@@ -54,17 +51,23 @@ fn put_path(
     at: usize,
     out: &mut [u8],
 )
-    requires { (from + h ≤ length places.now) × (at + head version + h * 8 ≤ length out.old) }
-    ensures { out.new ≡ sets out.old at (path_bytes version zone (ahead places.now from h)) }
+    requires { (from + h ≤ length places.now) × (at + head (version_number version) + h * 8 ≤ length out.old) }
+    ensures { out.new ≡ sets out.old at (path_bytes (version_number version) zone (ahead places.now from h)) }
 {
     octets::put(h as u64, 2, at, out);
     put_zone(version, zone, at + 2, out);
-    put_relays(places, from, h, at + sheet::head_bytes(version), out);
+    put_relays(
+        places,
+        from,
+        h,
+        at + sheet::head_bytes(version.number()),
+        out,
+    );
 }
 
 // Writes k paths with their zones, of w places each, from the place `at` on.
 pub fn put_paths(
-    version: u64,
+    version: Version,
     w: usize,
     places: &[u64],
     counts: &[u64],
@@ -73,55 +76,49 @@ pub fn put_paths(
     at: usize,
     out: &mut [u8],
 )
-    requires { Paths w k (length places.now) counts.now × (at + total version counts.now k ≤ length out.old) }
-    ensures { out.new ≡ sets out.old at (paths_bytes version zones.now (paths_of w places.now counts.now k)) }
+    requires { Paths w k (length places.now) counts.now × (at + total (version_number version) counts.now k ≤ length out.old) }
+    ensures { out.new ≡ sets out.old at (paths_bytes (version_number version) zones.now (paths_of w places.now counts.now k)) }
 {
-    let head = sheet::head_bytes(version);
+    let head = sheet::head_bytes(version.number());
     let mut to = at;
-    let mut i: usize = 0;
-    while i < k {
+    for i in 0..k {
         let h = counts[i] as usize;
         put_path(version, zone_of(zones, i), places, i * w + 1, h, to, out);
-        to = to + head + h * 8;
-        i += 1;
+        to += head + h * 8;
     }
 }
 
 // The bytes that k paths take.
-pub fn bytes_of(version: u64, counts: &[u64], k: usize) -> usize
+pub fn bytes_of(version: Version, counts: &[u64], k: usize) -> usize
     requires { Headed k counts.now }
-    ensures { result ≡ total version counts.now k }
+    ensures { result ≡ total (version_number version) counts.now k }
 {
-    let head = sheet::head_bytes(version);
+    let head = sheet::head_bytes(version.number());
     let mut n: usize = 0;
-    let mut i: usize = 0;
-    while i < k {
-        n = n + head + (counts[i] as usize) * 8;
-        i += 1;
+    for h in &counts[..k] {
+        n += head + *h as usize * 8;
     }
     n
 }
 
 // The first of k paths with a zone that is not 0.
-fn first_zone(zones: &[u32], k: usize) -> Spot
+fn first_zone(zones: &[u32], k: usize) -> Option<usize>
     ensures { spot_of result ≡ stray_at zones.now k }
 {
-    let mut i: usize = 0;
-    while i < k {
+    for i in 0..k {
         if zone_of(zones, i) != 0 {
-            return Spot::At(i);
+            return Some(i);
         }
-        i += 1;
     }
-    Spot::Nowhere
+    None
 }
 
 // The same where the version has no place for it; nowhere in version 2.
-pub fn stray(version: u64, zones: &[u32], k: usize) -> Spot
-    ensures { spot_of result ≡ stray_in version zones.now k }
+pub fn stray(version: Version, zones: &[u32], k: usize) -> Option<usize>
+    ensures { spot_of result ≡ stray_in (version_number version) zones.now k }
 {
-    if version == 2 {
-        return Spot::Nowhere;
+    match version {
+        Version::One => first_zone(zones, k),
+        Version::Two => None,
     }
-    first_zone(zones, k)
 }

@@ -1,6 +1,6 @@
 -- Why the reader keeps its promise: what is wrong with the head (`head_refused`), want of room (`body-short`), what is wrong with the paths (`body-flawed`), and else the paths taken into
 -- the lent slices (`body_taken`, `body-fan`). Assumes nothing.
-use Rattle.std.specs.Prelude.{ℕ, ◌≡◌, refl, Bool, true, false, List, ◌++◌, ltb, length, drop}
+use Rattle.std.specs.Prelude.{ℕ, ◌≡◌, refl, Bool, true, false, List, ◌++◌, ltb, length, drop, Ok, Err}
 use Rattle.std.proofs.Common.{sym, ap, ap₂, ◌∙◌, subst, arith, ltb-false}
 use Rattle.std.proofs.Math.Option.{Option, none, some}
 use Rattle.scan.specs.Scan.{pick}
@@ -9,7 +9,6 @@ use Rattle.mesh.specs.Kinds.{mesh_of}
 use Rattle.mesh.specs.Limits.{known-width}
 use Rattle.mesh.specs.Says.{short}
 use Rattle.mesh.specs.Requests.{neither_wanting, room_enough}
-use Rattle.mesh.specs.declared.Mesh as code
 use Rattle.sheet.specs.Format.{HEAD, kind_at, size_at, count_at, source_at}
 use Rattle.sheet.specs.Says.{flawed, before, settled, reads, reading_told}
 use Rattle.sheet.specs.Flaws.{before-none}
@@ -23,8 +22,7 @@ use Rattle.sheet_check.specs.Says.{mesh_at, sheet_paths, sheet_targets, sheet_pl
 use Rattle.sheet_check.specs.Needs.{Bodied}
 use Rattle.sheet_check.specs.Told.{told_flaw, told_none}
 use Rattle.sheet_check.specs.Bodied.{head_flaw, mesh_is, body-known}
-use Rattle.sheet.specs.declared.Reading.{Reading}
-use Rattle.sheet.specs.declared.Reading.TheVariants as reading
+use Rattle.sheet.specs.declared.Head.{Head}
 use Rattle.sheet_read.specs.Says.{lacking, reads_against, Held, Read}
 
 -- a refusal leaves all as it was
@@ -35,15 +33,14 @@ untouched {v} l places counts targets o = record {
   aimed = ap (λ (y : Option Flaw). settled y (sheet_targets v l ++ drop (length (sheet_targets v l)) targets) targets) o;
 }
 
-refused : {v : ℕ} (l places counts targets : List ℕ) {f : Flaw} → some f ≡ reads_against v l places counts targets → Read v l places counts targets (reading.Refused f) places counts targets
+refused : {v : ℕ} (l places counts targets : List ℕ) {f : Flaw} → some f ≡ reads_against v l places counts targets → Read v l places counts targets (Err f) places counts targets
 refused l places counts targets o = record { told = ap (sheet_told l) o; held = untouched l places counts targets o }
 
 -- what is wrong with the head is told of the sheet
-pub head_refused : (v : ℕ) (l places counts targets : List ℕ) {f : Flaw} {r : Reading} → r ≡ reading.Refused f → reading_told r ≡ sheet_told l (head_against v l)
-    → Read v l places counts targets (reading.Refused f) places counts targets
-head_refused v l places counts targets e t =
+pub head_refused : (v : ℕ) (l places counts targets : List ℕ) (f : Flaw) → reading_told (Err f) ≡ sheet_told l (head_against v l) → Read v l places counts targets (Err f) places counts targets
+head_refused v l places counts targets f t =
     let want = lacking l (length places) (length counts) (length targets) in
-    refused l places counts targets (ap (λ (o : Option Flaw). before o (flawed want flaw.NoRoom (paths_against v l))) (head_flaw v l e t))
+    refused l places counts targets (ap (λ (o : Option Flaw). before o (flawed want flaw.NoRoom (paths_against v l))) (head_flaw v l {f = f} t))
 
 module _ {v : ℕ} {l : List ℕ} {kind size s k : ℕ} (b : Bodied v l kind size s k) (places counts targets : List ℕ) where
   -- what stands against it: room, then the paths
@@ -58,18 +55,17 @@ module _ {v : ℕ} {l : List ℕ} {kind size s k : ℕ} (b : Bodied v l kind siz
     want_is : flag ≡ lacking l (length places) (length counts) (length targets)
     want_is = f ∙ ap₂ (λ (m : Mesh) (n : ℕ). pick (short m n (length places) (length counts)) true (ltb (length targets) n)) (mesh_is b) b.count_is
 
-    pub body-short : flag ≡ true → Read v l places counts targets (reading.Refused flaw.NoRoom) places counts targets
+    pub body-short : flag ≡ true → Read v l places counts targets (Err flaw.NoRoom) places counts targets
     body-short t = refused l places counts targets (reads_is {o = paths_against v l} (sym t ∙ want_is) refl)
 
     module _ (t : flag ≡ false) where
-      pub body-flawed : {g : Flaw} {r : Reading} → r ≡ reading.Refused g → reading_told r ≡ sheet_told l (paths_against v l)
-          → Read v l places counts targets (reading.Refused g) places counts targets
-      body-flawed e p = refused l places counts targets (reads_is (sym t ∙ want_is) (told_flaw l (paths_against v l) (sym (ap reading_told e) ∙ p)))
+      pub body-flawed : (g : Flaw) → reading_told (Err g) ≡ sheet_told l (paths_against v l) → Read v l places counts targets (Err g) places counts targets
+      body-flawed g p = refused l places counts targets (reads_is (sym t ∙ want_is) (told_flaw l (paths_against v l) {f = g} p))
 
       -- the paths were checked
-      module _ {m : code.Mesh} {s₁ k₁ : ℕ} {r : Reading} (e : r ≡ reading.Fan m s₁ k₁) (p : reading_told r ≡ sheet_told l (paths_against v l)) where
+      module _ {h : Head} (p : reading_told (Ok h) ≡ sheet_told l (paths_against v l)) where
         nothing : paths_against v l ≡ none
-        nothing = told_none l (paths_against v l) (sym (ap reading_told e) ∙ p)
+        nothing = told_none l (paths_against v l) {kind = h.mesh.kind} {size = h.mesh.size} {s = h.source} {k = h.paths} p
 
         all_taken : Taken v l (mesh_at l).longest (count_at l) (length places) (length counts) (length targets)
         all_taken =
@@ -92,10 +88,10 @@ module _ {v : ℕ} {l : List ℕ} {kind size s k : ℕ} (b : Bodied v l kind siz
               subst (λ (x : ℕ). Taken v l x k (length places) (length counts) (length targets)) (sym longest-told)
               (subst (λ (x : ℕ). Taken v l (mesh_at l).longest x (length places) (length counts) (length targets)) (sym b.count_is) all_taken)
 
-          pub body-fan : {m₁ : code.Mesh} {places₁ counts₁ targets₁ : List ℕ} → m₁.kind ≡ kind → m₁.size ≡ size
-              → TakenPaths v l s longest k places counts targets places₁ counts₁ targets₁ → Read v l places counts targets (reading.Fan m₁ s k) places₁ counts₁ targets₁
-          body-fan {m₁} {places₁} {counts₁} {targets₁} mk ms x = record {
-            told = ap₂ (λ (x y : ℕ). reads 0 0 0 x y s k) (mk ∙ b.kind_is) (ms ∙ b.size_is) ∙ ap₂ (reads 0 0 0 (kind_at l) (size_at l)) b.source_is b.count_is
+          pub body-fan : {places₁ counts₁ targets₁ : List ℕ} → TakenPaths v l s longest k places counts targets places₁ counts₁ targets₁
+              → Read v l places counts targets (Ok (record { mesh = record { kind = kind; size = size }; source = s; paths = k })) places₁ counts₁ targets₁
+          body-fan {places₁} {counts₁} {targets₁} x = record {
+            told = ap₂ (λ (x y : ℕ). reads 0 0 0 x y s k) b.kind_is b.size_is ∙ ap₂ (reads 0 0 0 (kind_at l) (size_at l)) b.source_is b.count_is
                 ∙ ap (sheet_told l) o;
             held = held;
           }

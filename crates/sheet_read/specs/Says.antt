@@ -1,15 +1,15 @@
 -- What the reader of version v tells, and what it leaves in the lent slices (`Read`, and with zones `ReadZoned`): it tells what the check of a sheet does, and 8 where
 -- there is no room; and the same of a sheet of either version (`ReadEither`). Assumes nothing.
-use Rattle.std.specs.Prelude.{ℕ, ◌≡◌, Bool, true, List, ◌++◌, ltb, length, drop}
+use Rattle.std.specs.Prelude.{ℕ, ◌≡◌, Bool, true, List, ◌++◌, ltb, length, drop, Result}
 use Rattle.std.proofs.Math.Option.{Option}
 use Rattle.scan.specs.Scan.{pick}
 use Rattle.mesh.specs.Says.{short}
 use Rattle.sheet.specs.Format.{version_of, count_at}
-use Rattle.sheet.specs.Says.{flawed, before, settled, reading_told}
+use Rattle.sheet.specs.Says.{flawed, before, settled, reading_told, version_told, head_told}
 use Rattle.sheet.specs.declared.Flaw.{Flaw}
 use Rattle.sheet.specs.declared.Flaw.TheVariants as flaw
 use Rattle.sheet_check.specs.Says.{mesh_at, sheet_targets, sheet_places, sheet_counts, sheet_zones, head_against, paths_against, sheet_told}
-use Rattle.sheet.specs.declared.Reading.{Reading}
+use Rattle.sheet.specs.declared.Head.{Head}
 use Rattle.sheet.specs.declared.Versioned.{Versioned}
 
 -- 8: too few places or counts, or too few places for targets
@@ -35,7 +35,7 @@ module _ (v : ℕ) (l : List ℕ) where
     abbrev pub reads_against : Option Flaw
     reads_against = read_against (length places) (length counts) (length targets)
 
-    pub record Read (r : Reading) (places₁ counts₁ targets₁ : List ℕ) : Type 0 where
+    pub record Read (r : Result Head Flaw) (places₁ counts₁ targets₁ : List ℕ) : Type 0 where
       pub told : reading_told r ≡ sheet_told l reads_against
       pub held : Held reads_against places counts targets places₁ counts₁ targets₁
 
@@ -43,12 +43,12 @@ module _ (v : ℕ) (l : List ℕ) where
       abbrev pub zones_against : Option Flaw
       zones_against = zoned_against (length places) (length counts) (length targets) (length zones)
 
-      pub record ReadZoned (r : Reading) (places₁ counts₁ targets₁ zones₁ : List ℕ) : Type 0 where
+      pub record ReadZoned (r : Result Head Flaw) (places₁ counts₁ targets₁ zones₁ : List ℕ) : Type 0 where
         pub told : reading_told r ≡ sheet_told l zones_against
         pub held : Held zones_against places counts targets places₁ counts₁ targets₁
         pub zoned : zones₁ ≡ settled zones_against (sheet_zones v l ++ drop (length (sheet_zones v l)) zones) zones
 
 -- a sheet of either version: its own, and what the reader of that version tells and leaves
-pub record ReadEither (l places counts targets zones : List ℕ) (r : Versioned) (places₁ counts₁ targets₁ zones₁ : List ℕ) : Type 0 where
-  pub version_is : r.version ≡ settled (zones_against (version_of l) l places counts targets zones) (version_of l) 0
-  pub read : ReadZoned (version_of l) l places counts targets zones r.reading places₁ counts₁ targets₁ zones₁
+pub record ReadEither (l places counts targets zones : List ℕ) (r : Result Versioned Flaw) (places₁ counts₁ targets₁ zones₁ : List ℕ) : Type 0 where
+  pub version_is : version_told r ≡ settled (zones_against (version_of l) l places counts targets zones) (version_of l) 0
+  pub read : ReadZoned (version_of l) l places counts targets zones (head_told r) places₁ counts₁ targets₁ zones₁

@@ -1,22 +1,21 @@
 -- Why the reader with zones keeps its promise: what is wrong with the head (`head-zoned`), want of room for zones (`zoned-short`), what the reader without them says (`zoned-flawed`), and
 -- else the zones taken too (`zoned-asked`, `zoned-fan`); and a sheet
 -- of either version (`either_read`). Assumes nothing.
-use Rattle.std.specs.Prelude.{ℕ, ◌≤◌, ◌<◌, ◌≡◌, refl, Bool, true, false, List, ◌++◌, ltb, length, drop}
-use Rattle.std.proofs.Common.{sym, ap, ap₂, ◌∙◌, subst, arith, lt-ltb, le-ltb}
+use Rattle.std.specs.Prelude.{ℕ, ◌≤◌, ◌<◌, ◌≡◌, Bool, List, ◌++◌, ltb, length, drop, Result, Ok, Err}
+use Rattle.std.proofs.Common.{sym, ap, ◌∙◌, subst, arith, lt-ltb, le-ltb}
 use Rattle.std.proofs.Math.Option.{Option, none, some}
 use Rattle.std.proofs.lemmas.List.Edits.{sets}
 use Rattle.paths.specs.Mesh.{Mesh}
 use Rattle.mesh.specs.Limits.{known-width}
-use Rattle.mesh.specs.declared.Mesh as code
 use Rattle.sheet.specs.Flaws.{flawed-none, before-none}
 use Rattle.sheet.specs.Format.{HEAD, version_of, count_at, zones_at}
 use Rattle.sheet.specs.Lengths.{zones_length}
 use Rattle.sheet.specs.Pieces.{at_front}
-use Rattle.sheet.specs.Says.{flawed, before, settled, reading_told, with_version}
+use Rattle.sheet.specs.Says.{flawed, before, settled, reading_told, version_number, version_told, head_told, with_version}
 use Rattle.sheet.specs.declared.Flaw.{Flaw}
 use Rattle.sheet.specs.declared.Flaw.TheVariants as flaw
-use Rattle.sheet.specs.declared.Reading.{Reading}
-use Rattle.sheet.specs.declared.Reading.TheVariants as reading
+use Rattle.sheet.specs.declared.Head.{Head}
+use Rattle.sheet.specs.declared.Version.{Version}
 use Rattle.sheet.specs.declared.Versioned.{Versioned}
 use Rattle.sheet_take.specs.Says.{looked}
 use Rattle.sheet_take.specs.Needs.{Zoned}
@@ -32,15 +31,15 @@ abbrev zones_left : (v : ℕ) (l zones : List ℕ) → Option Flaw → List ℕ
 zones_left v l zones o = settled o (sheet_zones v l ++ drop (length (sheet_zones v l)) zones) zones
 
 refused : {v : ℕ} (l places counts targets zones : List ℕ) {f : Flaw} → some f ≡ zones_against v l places counts targets zones
-    → ReadZoned v l places counts targets zones (reading.Refused f) places counts targets zones
+    → ReadZoned v l places counts targets zones (Err f) places counts targets zones
 refused {v} l places counts targets zones o = record { told = ap (sheet_told l) o; held = untouched l places counts targets o; zoned = ap (zones_left v l zones) o }
 
-pub head-zoned : (v : ℕ) (l places counts targets zones : List ℕ) {f : Flaw} {r : Reading} → r ≡ reading.Refused f → reading_told r ≡ sheet_told l (head_against v l)
-    → ReadZoned v l places counts targets zones (reading.Refused f) places counts targets zones
-head-zoned v l places counts targets zones e t =
+pub head-zoned : (v : ℕ) (l places counts targets zones : List ℕ) (f : Flaw) → reading_told (Err f) ≡ sheet_told l (head_against v l)
+    → ReadZoned v l places counts targets zones (Err f) places counts targets zones
+head-zoned v l places counts targets zones f t =
     let want = lacking l (length places) (length counts) (length targets) in
     refused l places counts targets zones
-    (ap (λ (o : Option Flaw). before o (flawed (ltb (length zones) (count_at l)) flaw.NoRoom (flawed want flaw.NoRoom (paths_against v l)))) (head_flaw v l e t))
+    (ap (λ (o : Option Flaw). before o (flawed (ltb (length zones) (count_at l)) flaw.NoRoom (flawed want flaw.NoRoom (paths_against v l)))) (head_flaw v l {f = f} t))
 
 module _ {v : ℕ} {l : List ℕ} {kind size s k : ℕ} (b : Bodied v l kind size s k) (places counts targets zones : List ℕ) where
   abbrev rest : Option Flaw
@@ -49,7 +48,7 @@ module _ {v : ℕ} {l : List ℕ} {kind size s k : ℕ} (b : Bodied v l kind siz
   abbrev against : Option Flaw
   against = zones_against v l places counts targets zones
 
-  pub zoned-short : length zones < k → ReadZoned v l places counts targets zones (reading.Refused flaw.NoRoom) places counts targets zones
+  pub zoned-short : length zones < k → ReadZoned v l places counts targets zones (Err flaw.NoRoom) places counts targets zones
   zoned-short h =
       refused l places counts targets zones
       (ap (λ (x : Bool). flawed x flaw.NoRoom rest) (sym (lt-ltb (length zones) (count_at l) (omega (arith, b.count_is))))
@@ -61,21 +60,21 @@ module _ {v : ℕ} {l : List ℕ} {kind size s k : ℕ} (b : Bodied v l kind siz
     same = ap (λ (x : Bool). before (head_against v l) (flawed x flaw.NoRoom rest)) (sym (le-ltb (length zones) (count_at l) (omega (arith, b.count_is))))
 
     -- what the reader without zones says and leaves
-    module _ {r : Reading} {places₁ counts₁ targets₁ : List ℕ} (q : Read v l places counts targets r places₁ counts₁ targets₁) where
+    module _ {r : Result Head Flaw} {places₁ counts₁ targets₁ : List ℕ} (q : Read v l places counts targets r places₁ counts₁ targets₁) where
       told_same : reading_told r ≡ sheet_told l against
       told_same = q.told ∙ ap (sheet_told l) same
 
       held_same : Held v l against places counts targets places₁ counts₁ targets₁
       held_same = subst (λ (o : Option Flaw). Held v l o places counts targets places₁ counts₁ targets₁) same q.held
 
-      pub zoned-flawed : {f : Flaw} → r ≡ reading.Refused f → ReadZoned v l places counts targets zones (reading.Refused f) places₁ counts₁ targets₁ zones
+      pub zoned-flawed : {f : Flaw} → r ≡ Err f → ReadZoned v l places counts targets zones (Err f) places₁ counts₁ targets₁ zones
       zoned-flawed {f} e = record {
         told = sym (ap reading_told e) ∙ told_same;
         held = held_same;
         zoned = ap (zones_left v l zones) (told_flaw l against {f = f} (sym (ap reading_told e) ∙ told_same));
       }
 
-      module _ {m : code.Mesh} {s₁ k₁ : ℕ} (e : r ≡ reading.Fan m s₁ k₁) where
+      module _ {x : Head} (e : r ≡ Ok x) where
         nothing : against ≡ none
         nothing = told_none l against (sym (ap reading_told e) ∙ told_same)
 
@@ -105,13 +104,12 @@ module _ {v : ℕ} {l : List ℕ} {kind size s k : ℕ} (b : Bodied v l kind siz
 
 -- ---- either version
 
-pub either_read : {l places counts targets zones : List ℕ} {v : ℕ} {x : Reading} {r : Versioned} {places₁ counts₁ targets₁ zones₁ : List ℕ} → v ≡ version_of l
-    → ReadZoned v l places counts targets zones x places₁ counts₁ targets₁ zones₁ → r ≡ with_version v x → ReadEither l places counts targets zones r places₁ counts₁ targets₁ zones₁
-either_read {l} {places} {counts} {targets} {zones} {v} {x} {r} {places₁} {counts₁} {targets₁} {zones₁} e q h = record {
-  version_is =
-      ap (λ (y : Versioned). y.version) h ∙ told_version l (zones_against v l places counts targets zones) v x q.told
-      ∙ ap (λ (u : ℕ). settled (zones_against u l places counts targets zones) u 0) e;
-  read =
-      subst (λ (y : Reading). ReadZoned (version_of l) l places counts targets zones y places₁ counts₁ targets₁ zones₁) (sym (ap (λ (y : Versioned). y.reading) h ∙ reading-kept v x))
-      (subst (λ (u : ℕ). ReadZoned u l places counts targets zones x places₁ counts₁ targets₁ zones₁) e q);
+pub either_read : {l places counts targets zones : List ℕ} (v : Version) {n : ℕ} {x : Result Head Flaw} {r : Result Versioned Flaw} {places₁ counts₁ targets₁ zones₁ : List ℕ} → version_number v ≡ version_of l → n ≡ version_number v
+    → ReadZoned n l places counts targets zones x places₁ counts₁ targets₁ zones₁ → r ≡ with_version v x → ReadEither l places counts targets zones r places₁ counts₁ targets₁ zones₁
+either_read {l} {places} {counts} {targets} {zones} v {n} {x} {r} {places₁} {counts₁} {targets₁} {zones₁} e g q h = record {
+  version_is = ap version_told h ∙ told_version l (zones_against (version_of l) l places counts targets zones) v x p.told ∙ ap (λ (u : ℕ). settled (zones_against (version_of l) l places counts targets zones) u 0) e;
+  read = subst (λ (y : Result Head Flaw). ReadZoned (version_of l) l places counts targets zones y places₁ counts₁ targets₁ zones₁) (sym (ap head_told h ∙ reading-kept v x)) p;
 }
+  where
+    p : ReadZoned (version_of l) l places counts targets zones x places₁ counts₁ targets₁ zones₁
+    p = subst (λ (u : ℕ). ReadZoned u l places counts targets zones x places₁ counts₁ targets₁ zones₁) (g ∙ e) q

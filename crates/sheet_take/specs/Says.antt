@@ -1,6 +1,6 @@
 -- What looking through a sheet's paths tells, path by path and then of bytes left over (`looked`), and what taking them out of it leaves in the lent
 -- slices (`TakenPaths`). Assumes nothing.
-use Rattle.std.specs.Prelude.{ℕ, zero, suc, ◌+◌, ◌*◌, ◌≡◌, Bool, true, not, List, eqb, ltb, length}
+use Rattle.std.specs.Prelude.{ℕ, zero, suc, ◌+◌, ◌*◌, ◌≡◌, Bool, true, not, List, eqb, ltb, length, Result, Ok, Err}
 use Rattle.std.proofs.Math.Option.{Option, none, some}
 use Rattle.std.proofs.lemmas.List.Edits.{sets}
 use Rattle.scan.specs.Scan.{pick}
@@ -8,10 +8,6 @@ use Rattle.sheet.specs.Format.{HEAD, hops_at, after, paths_at, places_of, counts
 use Rattle.sheet.specs.Says.{flawed}
 use Rattle.sheet.specs.declared.Flaw.{Flaw}
 use Rattle.sheet.specs.declared.Flaw.TheVariants as flaw
-use Rattle.sheet_take.specs.declared.Looked.{Looked}
-use Rattle.sheet_take.specs.declared.Looked.TheVariants as look
-use Rattle.sheet_take.specs.declared.Stride.{Stride}
-use Rattle.sheet_take.specs.declared.Stride.TheVariants as stride
 
 -- 34
 abbrev pub bad_hops : (longest hops : ℕ) → Bool
@@ -41,13 +37,9 @@ abbrev pub tell_stride : Option Flaw → ℕ → Strode
 tell_stride none to = strode none to
 tell_stride (some f) to = strode (some f) 0
 
-abbrev pub stride_told : Stride → Strode
-stride_told (stride.Next to) = tell_stride none to
-stride_told (stride.Flawed f) = tell_stride (some f) 0
-
-abbrev pub looked_of : Looked → Option Flaw
-looked_of look.Whole = none
-looked_of (look.Flawed f) = some f
+abbrev pub stride_told : Result ℕ Flaw → Strode
+stride_told (Ok to) = tell_stride none to
+stride_told (Err f) = tell_stride (some f) 0
 
 -- the paths' rows, their hops and their last relays
 pub record TakenPaths (v : ℕ) (l : List ℕ) (s longest k : ℕ) (places counts targets places₁ counts₁ targets₁ : List ℕ) : Type 0 where

@@ -107,9 +107,10 @@ module _ {v : ℕ} {l : List ℕ} {s longest k : ℕ} {places₀ counts₀ targe
   piece : (a b l₀ : List ℕ) {n : ℕ} → length a ≡ n → sets (sets l₀ 0 a) n b ≡ sets l₀ 0 (a ++ b)
   piece a b l₀ e = ap (λ (p : ℕ). sets (sets l₀ 0 a) p b) (sym e ∙ sym (zero-add (length a))) ∙ sym (sets_append l₀ 0 a b)
 
-  pub taking_more : {from hops x at₁ : ℕ} {places₁ : List ℕ} → from ≡ at + head v → hops ≡ hops_at l at → places₁ ≡ sets places (i * (longest + 1)) (row s longest (relays_at l from hops)) → x ≡ number l (from + hops * 8 - 8) 8
-      → at₁ ≡ from + hops * 8 → Taking v l s longest k places₀ counts₀ targets₀ places₁ (set counts i hops) (set targets i x) at₁ (i + 1)
-  taking_more {from} {hops} {x} {at₁} {places₁} f e p t g = record {
+  pub taking_more : {from hops x : ℕ} (head₁ : ℕ) {places₁ : List ℕ} → from ≡ at + head v → hops ≡ hops_at l at → places₁ ≡ sets places (i * (longest + 1)) (row s longest (relays_at l from hops))
+      → from ≡ at + head₁ → x ≡ number l (at + (head₁ + hops * 8) - 8) 8
+      → Taking v l s longest k places₀ counts₀ targets₀ places₁ (set counts i hops) (set targets i x) (at + (head₁ + hops * 8)) (i + 1)
+  taking_more {from} {hops} {x} head₁ {places₁} f e p g t = record {
     asked = q.asked;
     along = along-more q.along h next-at;
     long = ap length p ∙ length-sets places (i * (longest + 1)) (row s longest (relays_at l from hops)) ∙ q.long;
@@ -136,8 +137,11 @@ module _ {v : ℕ} {l : List ℕ} {s longest k : ℕ} {places₀ counts₀ targe
     };
   }
     where
-      next-at : at₁ ≡ after v l at
-      next-at = g ∙ ap₂ (λ (x y : ℕ). x + y * 8) f e
+      end : at + (head₁ + hops * 8) ≡ from + hops * 8
+      end = omega arith
+
+      next-at : at + (head₁ + hops * 8) ≡ after v l at
+      next-at = end ∙ ap₂ (λ (x y : ℕ). x + y * 8) f e
 
       short : length next ≤ longest
       short = omega (arith, relays-count l (at + head v) (hops_at l at), next-fine.short)
@@ -146,7 +150,7 @@ module _ {v : ℕ} {l : List ℕ} {s longest k : ℕ} {places₀ counts₀ targe
       one-row = sym (ap (λ (n : ℕ). n * (longest + 1)) (add-one i) ∙ suc-mul i (longest + 1))
 
       last : x ≡ last_of s next
-      last = t ∙ ap₂ (λ (x y : ℕ). number l (x + y * 8 - 8) 8) f e ∙ sym (last-relay l s (at + head v) (hops_at l at) next-fine.some-hops)
+      last = t ∙ ap (λ (y : ℕ). number l (y - 8) 8) end ∙ ap₂ (λ (x y : ℕ). number l (x + y * 8 - 8) 8) f e ∙ sym (last-relay l s (at + head v) (hops_at l at) next-fine.some-hops)
 
 pub taking_ends : {v : ℕ} {l : List ℕ} {s longest k : ℕ} {places₀ counts₀ targets₀ places counts targets : List ℕ} {at i : ℕ} → Taking v l s longest k places₀ counts₀ targets₀ places counts targets at i → k ≤ i
     → TakenPaths v l s longest k places₀ counts₀ targets₀ places counts targets

@@ -2,7 +2,7 @@
 use Rattle.std.specs.Prelude.{ℕ, zero, suc, ◌+◌, ◌≤◌, ◌<◌, ◌≡◌, refl, List, [], ◌∷◌, ◌++◌, length, set}
 use Rattle.std.proofs.Common.{sym, ap, ap₂, ◌∙◌, add-one, arith, length-set}
 use Rattle.std.proofs.lemmas.List.Edits.{sets}
-use Rattle.sheet.specs.Format.{HEAD, head, hops_at, after, zone_at, zones_at}
+use Rattle.sheet.specs.Format.{HEAD, hops_at, after, zone_at, zones_at}
 use Rattle.sheet.specs.Lengths.{zones_length}
 use Rattle.sheet.specs.Pieces.{after-put}
 use Rattle.sheet_take.specs.Along.{Along, offset, along_starts, along-fine, along-more}

@@ -1,71 +1,50 @@
 // The paths of a sheet looked through, and then taken out of its bytes. Inner: callers meet each `requires`.
+// Stays: the version is a number, as in `sheet::head_bytes`.
 #![tactic(auto)]
 
 ghost use Rattle.std.specs.Prelude.{◌≡◌, ◌+◌, ◌*◌, ◌≤◌, ◌<◌, length};
 ghost use Rattle.std.proofs.lemmas.List.Edits.{sets};
 ghost use Rattle.sheet.specs.Format.{HEAD, head, after, zone_at, zones_at, relays_at, row};
-ghost use Rattle.sheet_take.specs.Says.{looked, wrong_at, tell_stride, stride_told, looked_of, TakenPaths};
+ghost use Rattle.sheet.specs.Says.{flaw_of};
+ghost use Rattle.sheet_take.specs.Says.{looked, wrong_at, tell_stride, stride_told, TakenPaths};
 ghost use Rattle.sheet_take.specs.Needs.{Taken, Zoned};
 
 use paths::FILLER;
 use sheet::Flaw;
 
-// Where the next path begins, or what is wrong with this one.
-#[derive(Clone, Copy)]
-enum Stride {
-    Next(usize),
-    Flawed(Flaw),
-}
-
-// What looking through the paths ends with.
-#[derive(Clone, Copy)]
-pub enum Looked {
-    Whole,
-    Flawed(Flaw),
-}
-
-// Looks at path i, which begins at the place `at`.
-fn look_at(version: u64, longest: u64, bytes: &[u8], at: usize, i: usize) -> Stride
+// Looks at path i, which begins at the place `at`: where the next one begins, or what is wrong with this one.
+fn look_at(version: u64, longest: u64, bytes: &[u8], at: usize, i: usize) -> Result<usize, Flaw>
     requires { (at ≤ length bytes.now) × (longest ≤ 206) }
     ensures { stride_told result ≡ tell_stride (wrong_at version longest bytes.now at i) (after version bytes.now at) }
 {
     let left = bytes.len() - at;
     if left < 2 {
-        return Stride::Flawed(Flaw::Cut);
+        return Err(Flaw::Cut);
     }
     let h = octets::number(bytes, at, 2);
-    if h == 0 {
-        return Stride::Flawed(Flaw::Hops(i));
-    }
-    if longest < h {
-        return Stride::Flawed(Flaw::Hops(i));
+    if h == 0 || longest < h {
+        return Err(Flaw::Hops(i));
     }
     let size = sheet::head_bytes(version) + (h as usize) * 8;
     if left < size {
-        return Stride::Flawed(Flaw::Cut);
+        return Err(Flaw::Cut);
     }
-    Stride::Next(at + size)
+    Ok(at + size)
 }
 
 // Looks through k paths of a sheet of that version.
-pub fn look(version: u64, longest: u64, bytes: &[u8], k: usize) -> Looked
+pub fn look(version: u64, longest: u64, bytes: &[u8], k: usize) -> Result<(), Flaw>
     requires { (HEAD ≤ length bytes.now) × (longest ≤ 206) }
-    ensures { looked_of result ≡ looked version longest bytes.now HEAD 0 k }
+    ensures { flaw_of result ≡ looked version longest bytes.now HEAD 0 k }
 {
     let mut at: usize = 16;
-    let mut i: usize = 0;
-    while i < k {
-        let stride = look_at(version, longest, bytes, at, i);
-        match stride {
-            Stride::Next(to) => at = to,
-            Stride::Flawed(f) => return Looked::Flawed(f),
-        }
-        i += 1;
+    for i in 0..k {
+        at = look_at(version, longest, bytes, at, i)?;
     }
     if at < bytes.len() {
-        return Looked::Flawed(Flaw::LeftOver);
+        return Err(Flaw::LeftOver);
     }
-    Looked::Whole
+    Ok(())
 }
 
 // Takes n relays from the place `at` of the bytes on, to the place `to`.
@@ -73,10 +52,8 @@ pub fn take_relays(bytes: &[u8], at: usize, n: usize, to: usize, places: &mut [u
     requires { (at + n * 8 ≤ length bytes.now) × (to + n ≤ length places.old) }
     ensures { places.new ≡ sets places.old to (relays_at bytes.now at n) }
 {
-    let mut i: usize = 0;
-    while i < n {
+    for i in 0..n {
         places[to + i] = octets::number_eight(bytes, at + i * 8);
-        i += 1;
     }
 }
 
@@ -114,8 +91,7 @@ pub fn take_paths(
 {
     let head = sheet::head_bytes(version);
     let mut at: usize = 16;
-    let mut i: usize = 0;
-    while i < k {
+    for i in 0..k {
         let h = octets::number(bytes, at, 2) as usize;
         take_path(
             bytes,
@@ -126,10 +102,9 @@ pub fn take_paths(
             i * (longest + 1),
             places,
         );
-        at = at + head + h * 8;
+        at += head + h * 8;
         counts[i] = h as u64;
         targets[i] = octets::number(bytes, at - 8, 8);
-        i += 1;
     }
 }
 
@@ -139,9 +114,10 @@ fn zone_at(version: u64, bytes: &[u8], at: usize) -> u32
     ensures { result ≡ zone_at version bytes.now at }
 {
     if version == 2 {
-        return octets::number(bytes, at + 2, 4) as u32;
+        octets::number(bytes, at + 2, 4) as u32
+    } else {
+        0
     }
-    0
 }
 
 // Takes the zones of k paths, which were looked through.
@@ -151,10 +127,8 @@ pub fn take_zones(version: u64, bytes: &[u8], k: usize, zones: &mut [u32])
 {
     let head = sheet::head_bytes(version);
     let mut at: usize = 16;
-    let mut i: usize = 0;
-    while i < k {
+    for i in 0..k {
         zones[i] = zone_at(version, bytes, at);
-        at = at + head + (octets::number(bytes, at, 2) as usize) * 8;
-        i += 1;
+        at += head + octets::number(bytes, at, 2) as usize * 8;
     }
 }

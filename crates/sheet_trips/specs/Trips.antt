@@ -1,6 +1,6 @@
 -- Both round trips, in the words of the promises: what the writer writes is read back, mesh, source, targets, places and counts, in version 1 (`written_reads`) and in either, with the
 -- version and the zones (`zoned_reads`); and what the reader reads is written back, byte for byte (`read_writes`, `zoned_writes`). Assumes nothing.
-use Rattle.std.specs.Prelude.{ℕ, ◌*◌, ◌≤◌, ◌≡◌, refl, Bool, true, false, not, List, [], ◌++◌, eqb, ltb, length, take, drop}
+use Rattle.std.specs.Prelude.{ℕ, ◌*◌, ◌≤◌, ◌≡◌, refl, Bool, true, false, not, List, [], ◌++◌, eqb, ltb, length, take, drop, Result, Ok}
 use Rattle.std.proofs.Common.{sym, ap, ap₂, ◌∙◌, subst, arith, length-append, take_at, length-take-le, eqb-true, ltb-false, le-ltb}
 use Rattle.std.proofs.Math.Option.{Option, none, some}
 use Rattle.std.proofs.lemmas.Bool.{eqb-false}
@@ -15,14 +15,12 @@ use Rattle.sheet.specs.Flaws.{flaw_some, flawed-none, before-none}
 use Rattle.sheet.specs.Format.{VERSION, ZONED, HEAD, zoned, version_at, version_of, kind_at, size_at, count_at, source_at}
 use Rattle.sheet.specs.Judging.{judged}
 use Rattle.sheet.specs.Lengths.{paths-length, zones_length, targets-length}
-use Rattle.sheet.specs.Says.{flawed, before, settled, lone, flaw_number, wrote, tell_written, reads, tell_read, reading_told}
+use Rattle.sheet.specs.Says.{flawed, before, settled, lone, flaw_number, wrote, tell_written, reads, tell_read, reading_told, version_number, version_told, head_told}
 use Rattle.sheet.specs.declared.Flaw.{Flaw}
 use Rattle.sheet.specs.declared.Flaw.TheVariants as flaw
-use Rattle.sheet.specs.declared.Reading.{Reading}
-use Rattle.sheet.specs.declared.Reading.TheVariants as reading
+use Rattle.sheet.specs.declared.Head.{Head}
+use Rattle.sheet.specs.declared.Version.{Version}
 use Rattle.sheet.specs.declared.Versioned.{Versioned}
-use Rattle.sheet.specs.declared.Written.{Written}
-use Rattle.sheet.specs.declared.Written.TheVariants as written
 use Rattle.sheet_put.specs.Stray.{stray_in, none_stray}
 use Rattle.sheet_write.specs.Says.{bytes_in, ruled_in, unknown, writes_against, WroteIn, WroteZoned, Wrote}
 use Rattle.sheet_write.specs.Writing.{ruled-fan, judged-roomy, one_wrote}
@@ -81,8 +79,8 @@ zones_enough v l p c t z e = (flawed-none (ltb z (count_at l)) flaw.NoRoom _ (be
 -- ---- written, then read
 
 -- what is read of a sheet, lent room enough
-pub record SameFan (kind size s : ℕ) (targets places counts more others ends : List ℕ) (r : Reading) (places₁ counts₁ targets₁ : List ℕ) : Type 0 where
-  pub fan : r ≡ reading.Fan (record { kind = kind; size = size }) s (length targets)
+pub record SameFan (kind size s : ℕ) (targets places counts more others ends : List ℕ) (r : Result Head Flaw) (places₁ counts₁ targets₁ : List ℕ) : Type 0 where
+  pub fan : r ≡ Ok (record { mesh = record { kind = kind; size = size }; source = s; paths = length targets })
   pub placed : places₁ ≡ take (length targets * width (mesh_of kind size)) places ++ drop (length targets * width (mesh_of kind size)) more
   pub counted : counts₁ ≡ take (length targets) counts ++ drop (length targets) others
   pub aimed : targets₁ ≡ targets ++ drop (length targets) ends
@@ -104,7 +102,7 @@ module _ (v : ℕ) (zones : List ℕ) (kind size s : ℕ) (targets places counts
     pub lent : lacking ≡ false
     pub in_place : stray_in v zones k ≡ nowhere
 
-  pub written_is : (lacking : Bool) (out : List ℕ) (n : ℕ) (out₁ : List ℕ) → WroteIn v lacking zones kind size s targets places counts out (written.Bytes n) out₁ → IsSheet lacking n out₁
+  pub written_is : (lacking : Bool) (out : List ℕ) (n : ℕ) (out₁ : List ℕ) → WroteIn v lacking zones kind size s targets places counts out (Ok n) out₁ → IsSheet lacking n out₁
   written_is lacking out n out₁ q =
       let l = bytes_in v zones kind size s k places counts in
       let fine = wrote_fine (writes_against v lacking zones kind size s targets places counts out) n (length l) q.told in
@@ -124,13 +122,13 @@ module _ (v : ℕ) (zones : List ℕ) (kind size s : ℕ) (targets places counts
   -- the judge found a fan, the sheet is l, and nothing stands against reading it
   module _ (e : number_of (judge_told (kind_of kind) size s targets places counts false) ≡ 0) (l : List ℕ) (back : ReadsBack v zones kind size s targets places counts l)
       (more others ends : List ℕ) {o : Option Flaw} (nothing : o ≡ none) where
-    fan-read : {r : Reading} {places₁ counts₁ targets₁ : List ℕ} → reading_told r ≡ sheet_told l o → Held v l o more others ends places₁ counts₁ targets₁
+    fan-read : {r : Result Head Flaw} {places₁ counts₁ targets₁ : List ℕ} → reading_told r ≡ sheet_told l o → Held v l o more others ends places₁ counts₁ targets₁
         → SameFan kind size s targets places counts more others ends r places₁ counts₁ targets₁
     fan-read {r} told q =
         let found = judged (kind_of kind) size s targets places counts e in
         let kept : (now was : List ℕ) → settled o now was ≡ now = λ now was. ap (λ (o : Option Flaw). settled o now was) nothing in
         record {
-          fan = reading_unique r (reading.Fan (record { kind = kind; size = size }) s k)
+          fan = reading_unique r (Ok (record { mesh = record { kind = kind; size = size }; source = s; paths = k }))
               (told ∙ ap (λ (o : Option Flaw). tell_read o (kind_at l) (size_at l) (source_at l) (count_at l)) nothing
               ∙ ap₂ (λ (x y : ℕ). reads 0 0 0 x y (source_at l) (count_at l)) back.kind_is back.size_is
               ∙ ap₂ (reads 0 0 0 kind size) back.source_is back.count_is);
@@ -140,9 +138,9 @@ module _ (v : ℕ) (zones : List ℕ) (kind size s : ℕ) (targets places counts
         }
 
 -- in version 1
-pub written_reads : (kind size s : ℕ) (targets places counts out : List ℕ) (n : ℕ) (out₁ : List ℕ) → Wrote kind size s targets places counts out (written.Bytes n) out₁
+pub written_reads : (kind size s : ℕ) (targets places counts out : List ℕ) (n : ℕ) (out₁ : List ℕ) → Wrote kind size s targets places counts out (Ok n) out₁
     → (more others ends : List ℕ) → length targets * width (mesh_of kind size) ≤ length more → length targets ≤ length others → length targets ≤ length ends
-    → (r : Reading) (places₁ counts₁ targets₁ : List ℕ) → Read VERSION (take n out₁) more others ends r places₁ counts₁ targets₁
+    → (r : Result Head Flaw) (places₁ counts₁ targets₁ : List ℕ) → Read VERSION (take n out₁) more others ends r places₁ counts₁ targets₁
     → SameFan kind size s targets places counts more others ends r places₁ counts₁ targets₁
 written_reads kind size s targets places counts out n out₁ q more others ends a b c r places₁ counts₁ targets₁ u =
     let is = written_is VERSION [] kind size s targets places counts false out n out₁ (one_wrote kind size s targets places counts out q) in
@@ -153,14 +151,14 @@ written_reads kind size s targets places counts out n out₁ q more others ends 
 
 -- in either, with the version and the zones
 module _ (v : ℕ) (zones : List ℕ) (narrow : Narrow zones) (kind size s : ℕ) (targets places counts out : List ℕ) where
-  pub record SameZoned (more others ends lent : List ℕ) (r : Versioned) (places₁ counts₁ targets₁ zones₁ : List ℕ) : Type 0 where
-    pub version_is : r.version ≡ v
-    pub same : SameFan kind size s targets places counts more others ends r.reading places₁ counts₁ targets₁
+  pub record SameZoned (more others ends lent : List ℕ) (r : Result Versioned Flaw) (places₁ counts₁ targets₁ zones₁ : List ℕ) : Type 0 where
+    pub version_is : version_told r ≡ v
+    pub same : SameFan kind size s targets places counts more others ends (head_told r) places₁ counts₁ targets₁
     pub zones_are : zones₁ ≡ take (length targets) zones ++ drop (length targets) lent
 
-  pub zoned_reads : (n : ℕ) (out₁ : List ℕ) → WroteZoned v kind size s targets places counts zones out (written.Bytes n) out₁
+  pub zoned_reads : (n : ℕ) (out₁ : List ℕ) → WroteZoned v kind size s targets places counts zones out (Ok n) out₁
       → (more others ends lent : List ℕ) → length targets * width (mesh_of kind size) ≤ length more → length targets ≤ length others → length targets ≤ length ends → length targets ≤ length lent
-      → (r : Versioned) (places₁ counts₁ targets₁ zones₁ : List ℕ) → ReadEither (take n out₁) more others ends lent r places₁ counts₁ targets₁ zones₁
+      → (r : Result Versioned Flaw) (places₁ counts₁ targets₁ zones₁ : List ℕ) → ReadEither (take n out₁) more others ends lent r places₁ counts₁ targets₁ zones₁
       → SameZoned more others ends lent r places₁ counts₁ targets₁ zones₁
   zoned_reads n out₁ q more others ends lent a b c d r places₁ counts₁ targets₁ zones₁ u =
       let k = length targets in
@@ -169,7 +167,7 @@ module _ (v : ℕ) (zones : List ℕ) (narrow : Narrow zones) (kind size s : ℕ
       let back = write_read v zones narrow kind size s targets places counts is.planned-mesh is.is_fan is.several in
       let x = subst (λ (y : List ℕ). ReadEither y more others ends lent r places₁ counts₁ targets₁ zones₁) is.bytes_are u in
       let own : version_of l ≡ v = ap (λ (y : ℕ). pick (zoned y) ZONED VERSION) back.version_is ∙ own_version v is.known in
-      let z = subst (λ (y : ℕ). ReadZoned y l more others ends lent r.reading places₁ counts₁ targets₁ zones₁) own x.read in
+      let z = subst (λ (y : ℕ). ReadZoned y l more others ends lent (head_told r) places₁ counts₁ targets₁ zones₁) own x.read in
       let nothing : zones_against v l more others ends lent ≡ none
       = zones_roomy v l (length more) (length others) (length ends) (length lent) (omega (arith, back.count_is)) ∙ back.no_flaw (length more) (length others) (length ends) a b c in
       record {
@@ -183,7 +181,7 @@ module _ (v : ℕ) (zones : List ℕ) (narrow : Narrow zones) (kind size s : ℕ
 -- ---- read, then written
 
 -- a promise about the same request and slices
-wrote_same : {v kind size s kind₁ size₁ s₁ : ℕ} {lacking₀ lacking₁ : Bool} {zones targets places counts zones₁ targets₁ places₁ counts₁ out out₁ : List ℕ} {r : Written}
+wrote_same : {v kind size s kind₁ size₁ s₁ : ℕ} {lacking₀ lacking₁ : Bool} {zones targets places counts zones₁ targets₁ places₁ counts₁ out out₁ : List ℕ} {r : Result ℕ Flaw}
     → lacking₀ ≡ lacking₁ → zones ≡ zones₁ → kind ≡ kind₁ → size ≡ size₁ → s ≡ s₁ → targets ≡ targets₁ → places ≡ places₁ → counts ≡ counts₁
     → WroteIn v lacking₀ zones kind size s targets places counts out r out₁ → WroteIn v lacking₁ zones₁ kind₁ size₁ s₁ targets₁ places₁ counts₁ out r out₁
 wrote_same {v} {kind} {size} {s} {kind₁} {size₁} {s₁} {lacking₀} {lacking₁} {zones} {targets} {places} {counts} {zones₁} {targets₁} {places₁} {counts₁} {out} {out₁} {r} g h a b c d e f q =
@@ -197,12 +195,12 @@ wrote_same {v} {kind} {size} {s} {kind₁} {size₁} {s₁} {lacking₀} {lackin
     (subst (λ x. WroteIn v x zones kind size s targets places counts out r out₁) g q)))))))
 
 -- what is written of what was read, lent room enough
-sheet-written : (v : ℕ) (l more others zones out : List ℕ) → WritesBack v l more others zones out → length l ≤ length out → (r : Written) (out₁ : List ℕ)
+sheet-written : (v : ℕ) (l more others zones out : List ℕ) → WritesBack v l more others zones out → length l ≤ length out → (r : Result ℕ Flaw) (out₁ : List ℕ)
     → WroteIn v false zones (kind_at l) (size_at l) (source_at l) (sheet_targets v l) (sheet_places v l ++ more) (sheet_counts v l ++ others) out r out₁
-    → (r ≡ written.Bytes (length l)) × (out₁ ≡ l ++ drop (length l) out)
+    → (r ≡ Ok (length l)) × (out₁ ≡ l ++ drop (length l) out)
 sheet-written v l more others zones out back room r out₁ q =
     let nothing = back.no_flaw room in
-    wrote_in_unique v false zones (kind_at l) (size_at l) (source_at l) (sheet_targets v l) (sheet_places v l ++ more) (sheet_counts v l ++ others) out r (written.Bytes (length l)) out₁
+    wrote_in_unique v false zones (kind_at l) (size_at l) (source_at l) (sheet_targets v l) (sheet_places v l ++ more) (sheet_counts v l ++ others) out r (Ok (length l)) out₁
     (l ++ drop (length l) out) q
     (record {
       told = sym (ap₂ (λ (o : Option Flaw) (x : List ℕ). tell_written o (length x)) nothing back.bytes_are);
@@ -224,9 +222,9 @@ module _ (v : ℕ) (l targets : List ℕ) (o : Option Flaw) (mesh : code.Mesh) (
 
 -- in version 1
 pub read_writes : (l : List ℕ) → Bytes l → (places counts targets : List ℕ) (mesh : code.Mesh) (s k : ℕ) (places₁ counts₁ targets₁ : List ℕ)
-    → Read VERSION l places counts targets (reading.Fan mesh s k) places₁ counts₁ targets₁
-    → (out : List ℕ) → length l ≤ length out → (r : Written) (out₁ : List ℕ) → Wrote mesh.kind mesh.size s (take k targets₁) places₁ counts₁ out r out₁
-    → (r ≡ written.Bytes (length l)) × (out₁ ≡ l ++ drop (length l) out)
+    → Read VERSION l places counts targets (Ok (record { mesh = mesh; source = s; paths = k })) places₁ counts₁ targets₁
+    → (out : List ℕ) → length l ≤ length out → (r : Result ℕ Flaw) (out₁ : List ℕ) → Wrote mesh.kind mesh.size s (take k targets₁) places₁ counts₁ out r out₁
+    → (r ≡ Ok (length l)) × (out₁ ≡ l ++ drop (length l) out)
 read_writes l bytes places counts targets mesh s k places₁ counts₁ targets₁ q out room r out₁ u =
     let against = reads_against VERSION l places counts targets in
     let f = fine VERSION l targets against mesh s k q.told in
@@ -240,10 +238,10 @@ read_writes l bytes places counts targets mesh s k places₁ counts₁ targets�
     (one_wrote mesh.kind mesh.size s (take k targets₁) places₁ counts₁ out u))
 
 -- in either, with its zones, and in the version that is told
-pub zoned_writes : (l : List ℕ) → Bytes l → (places counts targets zones : List ℕ) (v : ℕ) (mesh : code.Mesh) (s k : ℕ) (places₁ counts₁ targets₁ zones₁ : List ℕ)
-    → ReadEither l places counts targets zones (record { version = v; reading = reading.Fan mesh s k }) places₁ counts₁ targets₁ zones₁
-    → (out : List ℕ) → length l ≤ length out → (r : Written) (out₁ : List ℕ) → WroteZoned v mesh.kind mesh.size s (take k targets₁) places₁ counts₁ zones₁ out r out₁
-    → (r ≡ written.Bytes (length l)) × (out₁ ≡ l ++ drop (length l) out)
+pub zoned_writes : (l : List ℕ) → Bytes l → (places counts targets zones : List ℕ) (v : Version) (mesh : code.Mesh) (s k : ℕ) (places₁ counts₁ targets₁ zones₁ : List ℕ)
+    → ReadEither l places counts targets zones (Ok (record { version = v; head = record { mesh = mesh; source = s; paths = k } })) places₁ counts₁ targets₁ zones₁
+    → (out : List ℕ) → length l ≤ length out → (r : Result ℕ Flaw) (out₁ : List ℕ) → WroteZoned (version_number v) mesh.kind mesh.size s (take k targets₁) places₁ counts₁ zones₁ out r out₁
+    → (r ≡ Ok (length l)) × (out₁ ≡ l ++ drop (length l) out)
 zoned_writes l bytes places counts targets zones v mesh s k places₁ counts₁ targets₁ zones₁ q out room r out₁ u =
     let y = version_of l in
     let z = q.read in
@@ -252,7 +250,7 @@ zoned_writes l bytes places counts targets zones v mesh s k places₁ counts₁ 
     let more = drop (length (sheet_places y l)) places in
     let others = drop (length (sheet_counts y l)) counts in
     let lent = drop (length (sheet_zones y l)) zones in
-    let own : v ≡ y = q.version_is ∙ ap (λ (o : Option Flaw). settled o y 0) f.0 in
+    let own : version_number v ≡ y = q.version_is ∙ ap (λ (o : Option Flaw). settled o y 0) f.0 in
     let enough = ltb-false (length zones) (count_at l) (zones_enough y l (length places) (length counts) (length targets) (length zones) f.0) in
     let none-against : reads_against y l places counts targets ≡ none = sym (zones_roomy y l (length places) (length counts) (length targets) (length zones) enough) ∙ f.0 in
     let back = read_write y (own-known l) l bytes (length places) (length counts) (length targets) none-against more others (sheet_zones y l ++ lent)

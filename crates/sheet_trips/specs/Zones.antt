@@ -5,7 +5,7 @@ use Rattle.std.proofs.Common.{sym, ap, ap₂, ◌∙◌, arith, get_or-drop, get
 use Rattle.std.proofs.Math.ListN.{get_or-append}
 use Rattle.std.proofs.lemmas.Bool.{not-false}
 use Rattle.scan.specs.Laws.{none-seek, seek-none, seek-same}
-use Rattle.scan.specs.Scan.{Spot, nowhere, seek, pick}
+use Rattle.scan.specs.Scan.{nowhere, seek, pick}
 use Rattle.octets.specs.Big.{Bytes, number, number-below}
 use Rattle.sheet.specs.Format.{VERSION, zoned, path_bytes, paths_bytes, body_of, sheet_of, zones_at, zones_of, after}
 use Rattle.sheet.specs.Lengths.{zones_length}

@@ -1,5 +1,5 @@
 -- Why `lay_sheet` keeps its promise: what it asks of the functions that it calls, and the pieces put together (`put_done`). Assumes nothing.
-use Rattle.std.specs.Prelude.{ℕ, ◌+◌, ◌≤◌, ◌<◌, ◌≡◌, refl, Bool, true, false, List, ◌++◌, ltb, length, drop}
+use Rattle.std.specs.Prelude.{ℕ, ◌+◌, ◌≤◌, ◌<◌, ◌≡◌, refl, Bool, true, false, List, ◌++◌, ltb, length, drop, Ok, Err}
 use Rattle.std.proofs.Common.{sym, ap, ap₂, ◌∙◌, subst, zero-add, arith, lt-ltb, le-ltb}
 use Rattle.std.proofs.Math.Option.{Option, none}
 use Rattle.std.proofs.lemmas.List.Edits.{sets, sets-eq}
@@ -11,15 +11,21 @@ use Rattle.mesh.specs.Kinds.{Kind, mesh_of}
 use Rattle.mesh.specs.Laws.{planned_case}
 use Rattle.sheet.specs.Format.{paths_bytes, paths_of}
 use Rattle.sheet.specs.Lengths.{sheet-length, paths_from-length}
-use Rattle.sheet.specs.Says.{flawed, settled, wrote, tell_written}
+use Rattle.sheet.specs.Says.{flawed, settled, wrote, tell_written, version_number}
 use Rattle.sheet.specs.declared.Flaw.{Flaw}
+use Rattle.sheet.specs.declared.Version.{Version}
+use Rattle.sheet.specs.declared.Version.TheVariants.{One, Two}
 use Rattle.sheet.specs.declared.Flaw.TheVariants as flaw
 use Rattle.sheet_put.specs.Needs.{Paths}
 use Rattle.sheet_put.specs.Total.{total, paths-total, total-most}
 use Rattle.sheet_write.specs.Heads.{head_bytes, head-length, sheet_is}
 use Rattle.sheet_write.specs.Needs.{Sheeted}
 use Rattle.sheet_write.specs.Says.{bytes_in, lay_against, Laid}
-use Rattle.sheet.specs.declared.Written.TheVariants as written
+
+-- a version takes a byte
+pub version_small : (v : Version) → version_number v < 256
+version_small One = omega arith
+version_small Two = omega arith
 
 module _ (v : ℕ) (zones : List ℕ) (kind size s k : ℕ) (places counts out : List ℕ) (a : Sheeted kind size k (length places) counts) where
   abbrev w : ℕ
@@ -47,7 +53,7 @@ module _ (v : ℕ) (zones : List ℕ) (kind size s k : ℕ) (places counts out :
     against_is : (b : Bool) → ltb (length out) (n + 16) ≡ b → lay_against v zones kind size s k places counts out ≡ flawed b flaw.NoRoom none
     against_is b f = ap (λ (x : Bool). flawed x flaw.NoRoom none) (ap (ltb (length out)) long ∙ f)
 
-    pub put_refused : length out < n + 16 → Laid v zones kind size s k places counts out (written.Refused flaw.NoRoom) out
+    pub put_refused : length out < n + 16 → Laid v zones kind size s k places counts out (Err flaw.NoRoom) out
     put_refused l =
         let o = against_is true (lt-ltb (length out) (n + 16) l) in
         record {
@@ -56,7 +62,7 @@ module _ (v : ℕ) (zones : List ℕ) (kind size s k : ℕ) (places counts out :
         }
 
     pub put_done : {x : ℕ} {out₁ out₂ : List ℕ} → v < 256 → n + 16 ≤ length out → x ≡ w → out₁ ≡ sets out 0 (head_bytes v kind size s k n)
-        → out₂ ≡ sets out₁ 16 (paths_bytes v zones (paths_of x places counts k)) → Laid v zones kind size s k places counts out (written.Bytes (n + 16)) out₂
+        → out₂ ≡ sets out₁ 16 (paths_bytes v zones (paths_of x places counts k)) → Laid v zones kind size s k places counts out (Ok (n + 16)) out₂
     put_done {x} {out₁} {out₂} small l wide p q =
         let o = against_is false (le-ltb (length out) (n + 16) l) in
         record {

@@ -1,6 +1,6 @@
 -- What the writer tells, and what it leaves in the lent slice, over the version: of slices that are judged (`WroteIn`, `WroteZoned`, of version 1 `Wrote`), and of paths that are
 -- known to be a fan (`PutIn`, `Laid`, of version 1 `Put`). Assumes nothing.
-use Rattle.std.specs.Prelude.{ℕ, ◌≡◌, Bool, true, false, not, List, [], ◌++◌, eqb, ltb, length, drop}
+use Rattle.std.specs.Prelude.{ℕ, ◌≡◌, Bool, true, false, not, List, [], ◌++◌, eqb, ltb, length, drop, Result}
 use Rattle.std.proofs.Math.Option.{Option, none, some}
 use Rattle.scan.specs.Scan.{Spot, nowhere, at, pick}
 use Rattle.paths.specs.Mesh.{width}
@@ -10,7 +10,6 @@ use Rattle.sheet.specs.Format.{VERSION, ZONED, sheet_of, paths_of}
 use Rattle.sheet.specs.Says.{flawed, before, settled, lone, tell_written, written_told}
 use Rattle.sheet.specs.declared.Flaw.{Flaw}
 use Rattle.sheet.specs.declared.Flaw.TheVariants as flaw
-use Rattle.sheet.specs.declared.Written.{Written}
 use Rattle.sheet_put.specs.Stray.{stray_in}
 
 -- 38
@@ -31,7 +30,7 @@ module _ (v : ℕ) (zones : List ℕ) (kind size s k : ℕ) (places counts out :
   lay_against = flawed (ltb (length out) (length (bytes_in v zones kind size s k places counts))) flaw.NoRoom none
 
   -- written where it fits
-  pub record Laid (r : Written) (out₁ : List ℕ) : Type 0 where
+  pub record Laid (r : Result ℕ Flaw) (out₁ : List ℕ) : Type 0 where
     pub told : written_told r ≡ tell_written lay_against (length (bytes_in v zones kind size s k places counts))
     pub held : out₁ ≡ settled lay_against (bytes_in v zones kind size s k places counts ++ drop (length (bytes_in v zones kind size s k places counts)) out) out
 
@@ -40,12 +39,12 @@ module _ (v : ℕ) (zones : List ℕ) (kind size s k : ℕ) (places counts out :
   put_against = before (stray_flaw (stray_in v zones k)) lay_against
 
   -- written where it fits, and its version has a place for its zones
-  pub record PutIn (r : Written) (out₁ : List ℕ) : Type 0 where
+  pub record PutIn (r : Result ℕ Flaw) (out₁ : List ℕ) : Type 0 where
     pub told : written_told r ≡ tell_written put_against (length (bytes_in v zones kind size s k places counts))
     pub held : out₁ ≡ settled put_against (bytes_in v zones kind size s k places counts ++ drop (length (bytes_in v zones kind size s k places counts)) out) out
 
 -- the same of version 1, without zones
-abbrev pub Put : (kind size s k : ℕ) (places counts out : List ℕ) (r : Written) (out₁ : List ℕ) → Type 0
+abbrev pub Put : (kind size s k : ℕ) (places counts out : List ℕ) (r : Result ℕ Flaw) (out₁ : List ℕ) → Type 0
 Put kind size s k places counts out r out₁ = Laid VERSION [] kind size s k places counts out r out₁
 
 -- what the judge says of a mesh that has sheets, where more is lacking or not: 0 of a fan, 8 where it lacks room, else 35; of another mesh 35
@@ -54,6 +53,10 @@ ruled_in lacking kind size s targets places counts = pick (planned kind size) (n
 
 abbrev pub ruled : (kind size s : ℕ) (targets places counts : List ℕ) → ℕ
 ruled kind size s targets places counts = ruled_in false kind size s targets places counts
+
+-- what is told of it, where a fan is to be written
+abbrev pub ruling_against : ℕ → Option Flaw
+ruling_against n = pick (eqb n 0) none (pick (eqb n 8) (some flaw.NoRoom) (some flaw.NotAFan))
 
 -- 31: neither version
 abbrev pub unknown : ℕ → Bool
@@ -74,12 +77,12 @@ module _ (v : ℕ) (lacking : Bool) (zones : List ℕ) (kind size s : ℕ) (targ
   abbrev pub writes_against : Option Flaw
   writes_against = flawed (lone kind (length targets)) flaw.Lone (flawed (unknown v) flaw.Version fan_against)
 
-  pub record WroteIn (r : Written) (out₁ : List ℕ) : Type 0 where
+  pub record WroteIn (r : Result ℕ Flaw) (out₁ : List ℕ) : Type 0 where
     pub told : written_told r ≡ tell_written writes_against (length sheet_in)
     pub held : out₁ ≡ settled writes_against (sheet_in ++ drop (length sheet_in) out) out
 
 -- the writer with zones: too few are lacking
-abbrev pub WroteZoned : (v kind size s : ℕ) (targets places counts zones out : List ℕ) (r : Written) (out₁ : List ℕ) → Type 0
+abbrev pub WroteZoned : (v kind size s : ℕ) (targets places counts zones out : List ℕ) (r : Result ℕ Flaw) (out₁ : List ℕ) → Type 0
 WroteZoned v kind size s targets places counts zones out r out₁ = WroteIn v (ltb (length zones) (length targets)) zones kind size s targets places counts out r out₁
 
 -- the writer of version 1
@@ -95,6 +98,6 @@ module _ (kind size s : ℕ) (targets places counts out : List ℕ) where
       (pick (eqb (ruled kind size s targets places counts) 0) (flawed (ltb (length out) (length sheet)) flaw.NoRoom none)
       (pick (eqb (ruled kind size s targets places counts) 8) (some flaw.NoRoom) (some flaw.NotAFan)))
 
-  pub record Wrote (r : Written) (out₁ : List ℕ) : Type 0 where
+  pub record Wrote (r : Result ℕ Flaw) (out₁ : List ℕ) : Type 0 where
     pub told : written_told r ≡ tell_written write_against (length sheet)
     pub held : out₁ ≡ settled write_against (sheet ++ drop (length sheet) out) out

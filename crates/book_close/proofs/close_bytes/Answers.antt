@@ -1,7 +1,8 @@
-use Rattle.std.proofs.Common.{ℕ, ◌+◌, ◌-◌, ◌≤◌, ◌≡◌, ap, ◌∙◌, subst, sym, Bool, true, false, List, arith, rules, length, take, drop}
+use Rattle.std.proofs.Common.{ℕ, ◌+◌, ◌-◌, ◌≤◌, ◌≡◌, ap, ◌∙◌, subst, sym, Bool, true, false, List, arith, rules, length, length-drop, take, drop}
 use lib.Seq.{sets}
 use Rattle.scan.specs.Scan.{pick}
 use Rattle.book.specs.Pieces.{live}
+use Rattle.book_parts.specs.Moved.{pasted}
 use Rattle.book_close.specs.Slides.{Sliding, sliding_starts, sliding_long, sliding_piece, sliding_more, sliding_ends}
 use Rattle.book_close.proofs.close_bytes.Goals as goal
 
@@ -21,19 +22,23 @@ piece-n-requires c = let v = c.loop-at.invariant in (omega (arith, v.within, c.l
 pub staying-m-requires : goal.staying-m-requires
 staying-m-requires c = let v = c.loop-at.invariant in omega (arith, v.within, v.fits, sliding_long v, c.loop-at-test.true)
 
-pub slide-requires : goal.slide-requires
-slide-requires c =
+pub copy_within-requires : goal.copy_within-requires
+copy_within-requires c =
     let v = c.loop-at.invariant in
     let p = sliding_piece v c.loop-at-test.true c.piece-n.ensures in
-    (v.few, omega (arith, p.1, v.fits, sliding_long v, few_stay (live (drop c.loop-at.at c.loop-at.bytes)) c.piece-n.result c.staying-m.ensures))
+    let few = few_stay (live (drop c.loop-at.at c.loop-at.bytes)) c.piece-n.result c.staying-m.ensures in
+    record {
+      start_le_end = omega arith;
+      in_bounds = omega (arith, p.1, v.fits, sliding_long v, few);
+      dest_in_bounds = omega (arith, p.1, v.fits, v.few, sliding_long v, few);
+      not_exhausted = tt;
+    }
 
 pub overflow_add-to : goal.overflow_add-to
-overflow_add-to c = let v = (let again : Sliding c.args.bytes.now c.args.end (sets c.loop-at.bytes c.loop-at.to (take c.staying-m.result (drop c.loop-at.at c.loop-at.bytes)))
-    (c.loop-at.at + c.piece-n.result) (c.loop-at.to + c.staying-m.result) = sliding_more c.loop-at.invariant c.loop-at-test.true c.piece-n.ensures c.staying-m.ensures in again) in omega (arith, v.few, v.within)
+overflow_add-to c = let v = sliding_more c.loop-at.invariant c.loop-at-test.true c.piece-n.ensures c.staying-m.ensures in omega (arith, v.few, v.within)
 
 pub overflow_add-at : goal.overflow_add-at
-overflow_add-at c = let v = (let again : Sliding c.args.bytes.now c.args.end (sets c.loop-at.bytes c.loop-at.to (take c.staying-m.result (drop c.loop-at.at c.loop-at.bytes)))
-    (c.loop-at.at + c.piece-n.result) (c.loop-at.to + c.staying-m.result) = sliding_more c.loop-at.invariant c.loop-at-test.true c.piece-n.ensures c.staying-m.ensures in again) in omega (arith, v.within)
+overflow_add-at c = let v = sliding_more c.loop-at.invariant c.loop-at-test.true c.piece-n.ensures c.staying-m.ensures in omega (arith, v.within)
 
 pub loop-at-smaller : goal.loop-at-smaller
 loop-at-smaller c =
@@ -42,9 +47,16 @@ loop-at-smaller c =
 
 pub loop-at-preserved : goal.loop-at-preserved
 loop-at-preserved c =
-    subst (λ (l : List ℕ). Sliding c.args.bytes.now c.args.end l (c.loop-at.at + c.piece-n.result) (c.loop-at.to + c.staying-m.result))
-    (sym c.slide.ensures) ((let again : Sliding c.args.bytes.now c.args.end (sets c.loop-at.bytes c.loop-at.to (take c.staying-m.result (drop c.loop-at.at c.loop-at.bytes)))
-    (c.loop-at.at + c.piece-n.result) (c.loop-at.to + c.staying-m.result) = sliding_more c.loop-at.invariant c.loop-at-test.true c.piece-n.ensures c.staying-m.ensures in again))
+    let v = c.loop-at.invariant in
+    let p = sliding_piece v c.loop-at-test.true c.piece-n.ensures in
+    let few = few_stay (live (drop c.loop-at.at c.loop-at.bytes)) c.piece-n.result c.staying-m.ensures in
+    let x = c.loop-at in
+    let n : x.at + c.staying-m.result - x.at ≡ c.staying-m.result = omega arith in
+    subst (λ (l : List ℕ). Sliding c.args.bytes.now c.args.end l (x.at + c.piece-n.result) (x.to + c.staying-m.result))
+    (sym (c.copy_within.ensures.after
+    ∙ pasted x.bytes x.to (drop x.at x.bytes) (x.at + c.staying-m.result - x.at) (omega (arith, p.1, v.fits, sliding_long v, few, length-drop x.at x.bytes)) (omega (arith, p.1, v.fits, v.few, sliding_long v, few))
+    ∙ ap (λ (k : ℕ). sets x.bytes x.to (take k (drop x.at x.bytes))) n))
+    (sliding_more v c.loop-at-test.true c.piece-n.ensures c.staying-m.ensures)
 
 pub returns : goal.returns
 returns c =

@@ -16,10 +16,10 @@ pub staying-sum-requires : goal.staying-sum-requires
 staying-sum-requires c = let v = c.loop-at.invariant in omega (arith, v.within, v.fits, c.loop-at-test.true)
 
 pub overflow_add-sum : goal.overflow_add-sum
-overflow_add-sum c = let v = (let again : Counting c.args.bytes.now c.args.end (c.loop-at.at + c.piece-n.result) (c.loop-at.sum + c.staying-sum.result) = counting_more c.loop-at.invariant c.loop-at-test.true c.piece-n.ensures c.staying-sum.ensures in again) in omega (arith, v.few, v.within)
+overflow_add-sum c = let v = counting_more c.loop-at.invariant c.loop-at-test.true c.piece-n.ensures c.staying-sum.ensures in omega (arith, v.few, v.within)
 
 pub overflow_add-at : goal.overflow_add-at
-overflow_add-at c = let v = (let again : Counting c.args.bytes.now c.args.end (c.loop-at.at + c.piece-n.result) (c.loop-at.sum + c.staying-sum.result) = counting_more c.loop-at.invariant c.loop-at-test.true c.piece-n.ensures c.staying-sum.ensures in again) in omega (arith, v.within)
+overflow_add-at c = let v = counting_more c.loop-at.invariant c.loop-at-test.true c.piece-n.ensures c.staying-sum.ensures in omega (arith, v.within)
 
 pub loop-at-smaller : goal.loop-at-smaller
 loop-at-smaller c =
@@ -28,7 +28,7 @@ loop-at-smaller c =
     omega (arith, p.0, p.1)
 
 pub loop-at-preserved : goal.loop-at-preserved
-loop-at-preserved c = (let again : Counting c.args.bytes.now c.args.end (c.loop-at.at + c.piece-n.result) (c.loop-at.sum + c.staying-sum.result) = counting_more c.loop-at.invariant c.loop-at-test.true c.piece-n.ensures c.staying-sum.ensures in again)
+loop-at-preserved c = counting_more c.loop-at.invariant c.loop-at-test.true c.piece-n.ensures c.staying-sum.ensures
 
 pub returns : goal.returns
 returns c = counting_ends c.loop-at.invariant c.loop-at-test.false

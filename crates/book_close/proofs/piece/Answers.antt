@@ -16,4 +16,4 @@ overflow_add-number c = omega (arith, c.number.ensures, number_small c.args.byte
 pub returns : goal.returns
 returns c =
     let a = c.args in
-    c.lesser.ensures ∙ ap (λ (n : ℕ). min (a.end - a.at) n) (length-at a.bytes.now a.at _ c.number.ensures)
+    c.min.ensures ∙ ap (λ (n : ℕ). min (a.end - a.at) n) (length-at a.bytes.now a.at _ c.number.ensures)

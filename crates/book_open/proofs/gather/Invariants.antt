@@ -1,6 +1,6 @@
 -- `book_open::gather` meets its contract: the pieces before `at` are gone through. Assumes nothing.
-use Rattle.std.proofs.Common.{◌-◌, ◌∙◌, arith, length, rules}
-use Rattle.book_open.specs.Opens.{Going, going_starts, going_ends, going_bad, going_enter, going_size, going_again, going_full, going_more, part-size, part-enter, part-kept}
+use Rattle.std.proofs.Common.{◌-◌, length}
+use Rattle.book_open.specs.Opens.{Going}
 use Rattle.book_open.proofs.gather.Given as goal
 
 abbrev pub invariant-loop-at : goal.invariant-loop-at

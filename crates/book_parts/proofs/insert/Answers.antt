@@ -1,12 +1,7 @@
-use Rattle.std.proofs.Common.{◌+◌, ◌-◌, rules}
-use Rattle.book_parts.specs.Moved.{Opening, opening_starts, opening-more, opening-ends}
+-- `book_parts::insert` meets its contract: those from i on are moved up, and x is put before them. Assumes nothing.
+use Rattle.std.proofs.Common.{ap, ◌∙◌, set, List, ℕ}
+use Rattle.book_parts.specs.Moved.{opened_by}
 use Rattle.book_parts.proofs.insert.Goals as goal
 
-pub loop-q-init : goal.loop-q-init
-loop-q-init c = opening_starts _ _ _ _ c.requires.0 c.requires.1
-
-pub loop-q-preserved : goal.loop-q-preserved
-loop-q-preserved c = opening-more c.loop-q.invariant c.loop-q-test.true
-
 pub returns : goal.returns
-returns c = opening-ends c.loop-q.invariant c.loop-q-test.false
+returns c = let a = c.args in ap (λ (l : List ℕ). set l a.i a.x) c.copy_within.ensures.after ∙ opened_by a.index.now a.i a.n a.x c.requires.0 c.requires.1

@@ -1,5 +1,4 @@
-use Rattle.std.proofs.Common.{rules}
-use Rattle.book_parts.specs.Place.{Halving, halving_starts, halving_high, halving_low, halving_ends}
+use Rattle.book_parts.specs.Place.{halving_starts, halving_high, halving_low, halving_ends}
 use Rattle.book_parts.proofs.place.Goals as goal
 
 pub loop-left-init : goal.loop-left-init

@@ -1,6 +1,5 @@
 -- `book_parts::place` meets its contract: what is left of the search finds what the whole would. Assumes nothing.
-use Rattle.std.proofs.Common.{rules}
-use Rattle.book_parts.specs.Place.{Halving, halving_starts, halving_high, halving_low, halving_ends}
+use Rattle.book_parts.specs.Place.{Halving}
 use Rattle.book_parts.proofs.place.Given as goal
 
 abbrev pub invariant-loop-left : goal.invariant-loop-left

@@ -6,6 +6,3 @@ use Rattle.sheet_put.proofs.first_zone.Given as goal
 
 abbrev pub invariant-loop-i : goal.invariant-loop-i
 invariant-loop-i l = Passed (has_zone l.zones) 0 l.k l.i
-
-abbrev pub decreases-loop-i : goal.decreases-loop-i
-decreases-loop-i l = l.k - l.i

@@ -5,6 +5,3 @@ use Rattle.sheet_put.proofs.put_relays.Given as goal
 
 abbrev pub invariant-loop-i : goal.invariant-loop-i
 invariant-loop-i l = Relayed l.places l.from l.n l.at l.initial.out l.out l.i
-
-abbrev pub decreases-loop-i : goal.decreases-loop-i
-decreases-loop-i l = l.n - l.i

@@ -1,6 +1,4 @@
-use Rattle.std.proofs.Common.{◌-◌, rules}
-use Rattle.sheet.specs.Format.{relays_at}
-use Rattle.scan.specs.Runs.{Running, running_starts, running_more, running_ends}
+use Rattle.scan.specs.Runs.{running_starts, running_more}
 use Rattle.sheet_take.specs.Running.{relays-run}
 use Rattle.sheet_take.proofs.take_relays.Goals as goal
 
@@ -9,6 +7,3 @@ loop-i-init c = let a = c.args in running_starts (relays-run a.bytes.now a.at) a
 
 pub loop-i-preserved : goal.loop-i-preserved
 loop-i-preserved c = let a = c.args in running_more (relays-run a.bytes.now a.at) c.loop-i.invariant c.loop-i-test.true c.number_eight.ensures
-
-pub returns : goal.returns
-returns c = running_ends c.loop-i.invariant c.loop-i-test.false

@@ -1,13 +1,10 @@
 -- `book_calls::puts::put_closed` meets its contract. Assumes nothing.
-use Rattle.std.proofs.Common.{sym, ◌∙◌, rules}
+use Rattle.std.proofs.Common.{sym, ◌∙◌}
 use Rattle.book_calls.specs.Puts.{closed-crammed, closed-put}
 use Rattle.book_calls.proofs.puts.put_closed.Goals as goal
 
 pub returns-then-crammed : goal.returns-then-crammed
 returns-then-crammed c = let a = c.args in closed-crammed a.book a.bytes.now a.index.now a.sheet.now (sym c.crammed.ensures ∙ c.if-crammed.true)
-
-pub put_last-requires : goal.put_last-requires
-put_last-requires c = c.requires
 
 pub returns : goal.returns
 returns c =

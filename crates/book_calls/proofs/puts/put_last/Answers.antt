@@ -1,12 +1,9 @@
 -- `book_calls::puts::put_last` meets its contract: each return is a case of the definition. Assumes nothing.
-use Rattle.std.proofs.Common.{ℕ, ◌+◌, ◌*◌, refl, sym, ap, ◌∙◌, arith}
+use Rattle.std.proofs.Common.{ℕ, ◌+◌, ◌*◌, sym, ap, ◌∙◌, arith}
 use Rattle.book.specs.Sheets.{accepted}
 use Rattle.book_keys.specs.Cases.{key_small, count-lent}
 use Rattle.book_calls.specs.Cases.{short_fits, full-room, code_spot, code_stands, code_place, put-there, put_full, put-short, put_done}
 use Rattle.book_calls.proofs.puts.put_last.Goals as goal
-
-pub count-n-requires : goal.count-n-requires
-count-n-requires c = tt
 
 pub overflow_mul-key : goal.overflow_mul-key
 overflow_mul-key c = let a = c.args in omega (arith, key_small (accepted a.sheet.now c.requires.0).keyed c.requires.1)
@@ -16,12 +13,6 @@ place-i-requires c = let a = c.args in count-lent a.book a.index.now c.count-n.e
 
 pub there-stands-requires : goal.there-stands-requires
 there-stands-requires c = let a = c.args in count-lent a.book a.index.now c.count-n.ensures
-
-pub full-filled-requires : goal.full-filled-requires
-full-filled-requires c = tt
-
-pub short-lacking-requires : goal.short-lacking-requires
-short-lacking-requires c = tt
 
 pub returns-then-stands : goal.returns-then-stands
 returns-then-stands c = let a = c.args in put-there a.book a.bytes.now a.index.now a.sheet.now c.requires.0 (code_stands a.book a.index.now a.sheet.now a.key c.requires.1 c.count-n.ensures c.place-i.ensures c.there-stands.ensures c.if-stands.true)
