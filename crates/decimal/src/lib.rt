@@ -6,10 +6,3 @@ mod writing;
 
 pub use reading::read;
 pub use writing::put;
-
-// A number that stands in a text, and the place after its last digit; or none that can be read.
-#[derive(Clone, Copy)]
-pub enum Number {
-    Got(u64, usize),
-    Bad,
-}

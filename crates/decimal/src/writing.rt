@@ -9,10 +9,10 @@ pub fn put(out: &mut [u8], at: usize, n: u64) -> usize
     ensures { Put out.old at (digits n) result out.new }
 {
     if n < 10 {
-        out[at] = 48 + n as u8;
+        out[at] = b'0' + n as u8;
         return at + 1;
     }
     let next = put(out, at, n / 10);
-    out[next] = 48 + (n % 10) as u8;
+    out[next] = b'0' + (n % 10) as u8;
     next + 1
 }

@@ -1,13 +1,13 @@
 -- Laws of `e` lines: which two numbers one has matters, and not their order (`times-turn`, `times_turned`, `link-turn`). Assumes nothing.
-use Rattle.std.specs.Prelude.{ℕ, zero, suc, ◌+◌, ◌-◌, ◌≤◌, ◌<◌, ◌≡◌, refl, Bool, true, false, not, ◌&&◌, ◌||◌, ◌⊎◌, ◌≢◌, List, [], ◌∷◌, eqb, leb, ltb}
+use Rattle.std.specs.Prelude.{ℕ, suc, ◌-◌, ◌≤◌, ◌<◌, ◌≡◌, refl, Bool, true, false, ◌&&◌, ◌⊎◌, ◌≢◌, List, [], ◌∷◌, eqb, leb, ltb}
 use Rattle.std.proofs.Common.{sym, ap₂, ◌∙◌, inl, inr, ⊎_elim, arith, eqb-true, eq-eqb, ltb-true, leb-true, lt-ltb, le-leb}
 use Rattle.std.proofs.Math.Path.{ap}
 use Rattle.scan.specs.Scan.{pick}
-use Rattle.scan.specs.Laws.{true-or, true-false, not-true, tests_same, both_true, either_true, first-true, second-true}
+use Rattle.scan.specs.Laws.{true-false, not-true, tests_same, both_true, either_true, first-true, second-true}
 use Rattle.paths.specs.Mesh.{Mesh}
 use Rattle.paths.specs.Links.{Links}
 use Rattle.dimacs.specs.Text.{Edge, edge}
-use Rattle.dimacs.specs.Says.{is_link, same, times, stands}
+use Rattle.dimacs.specs.Says.{is_link, same, times}
 
 -- ---- tests
 

@@ -1,6 +1,6 @@
 -- The lines of a text, one at a time. Assumes nothing.
 use Rattle.std.specs.Prelude.{ℕ, zero, suc, ◌+◌, ◌≤◌, ◌<◌, ◌≡◌, refl, List, [], ◌∷◌, length, get_or, drop}
-use Rattle.std.proofs.Common.{sym, ap, ◌∙◌, arith, drop_of_length-le}
+use Rattle.std.proofs.Common.{sym, ap, ◌∙◌, drop_of_length-le}
 use Rattle.decimal.specs.Read.{next_byte}
 use Rattle.dimacs.specs.Parse.{Line, malformed, Piece, broken, piece, on_piece, line_at, lines, lines_of}
 

@@ -1,13 +1,13 @@
 -- What `exported` finds, test by test, and what a mesh is that nothing stands against: planned, of 2,048 relays at most (`export_fine`), with 11 links at most (`few-links`). Assumes nothing.
-use Rattle.std.specs.Prelude.{ℕ, zero, suc, ◌+◌, ◌^◌, ◌≤◌, ◌<◌, ◌≡◌, refl, Bool, true, false, not, List, ltb, length}
+use Rattle.std.specs.Prelude.{ℕ, ◌+◌, ◌^◌, ◌≤◌, ◌<◌, ◌≡◌, refl, Bool, true, List, ltb, length}
 use Rattle.std.proofs.Common.{sym, ap, ◌∙◌, arith, length-append, pow_mono, lt-ltb, le-ltb, ltb-false}
-use Rattle.std.proofs.Math.Option.{Option, none, some}
+use Rattle.std.proofs.Math.Option.{none, some}
 use Rattle.std.proofs.Math.Decide.{dec_lt}
-use Rattle.answers.specs.Order.{first, export_faults, refuse-none, append-none}
+use Rattle.answers.specs.Order.{first, export_faults, refuse-none}
 use Rattle.answers.specs.declared.Refusal.{Refusal}
 use Rattle.answers.specs.declared.Refusal.TheVariants.{TooLarge}
 use Rattle.mesh.specs.Kinds.{Kind, kind_of, mesh_of, known, planned}
-use Rattle.mesh.specs.Laws.{planned_case, known-planned, planned-known, served-fine, unserved_refused}
+use Rattle.mesh.specs.Laws.{planned_case, known-planned, served-fine, unserved_refused}
 use Rattle.mesh.specs.Requests.{served_sound}
 use Rattle.mesh.specs.Says.{served_faults_in}
 use Rattle.two_parts.specs.Parts.{known_bounds}

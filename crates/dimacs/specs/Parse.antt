@@ -1,10 +1,9 @@
 -- How a file is read: line by line, each from the front of what is left (`line_at`), up to the end or the first line that is none (`lines_of`). A line is ended by a newline; one whose first
 -- byte is `c` is a comment whatever follows; every other is exactly `p edge N M` or `e U V`, with one space before each number, as in the request line of `line`. Assumes nothing.
-use Rattle.std.specs.Prelude.{ℕ, zero, suc, ◌≡◌, refl, Bool, true, false, List, [], ◌∷◌, eqb, length, drop}
+use Rattle.std.specs.Prelude.{ℕ, zero, suc, List, [], ◌∷◌, eqb, length, drop}
 use Rattle.std.proofs.Math.Option.{Option, none, some}
 use Rattle.scan.specs.Scan.{pick}
-use Rattle.decimal.specs.Number.{number, more}
-use Rattle.line.specs.Parse.{Field, field, on_field, begins}
+use Rattle.line.specs.Parse.{field, on_field, begins}
 use Rattle.dimacs.specs.Text.{Edge, edge, counts_word}
 
 pub data Line : Type 0 where

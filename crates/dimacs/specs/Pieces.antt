@@ -1,6 +1,6 @@
 -- The text of a mesh piece by piece: how long each is, and what loops over relays and links have counted (`Summing`) or written (`Eaching`). Assumes nothing.
 use Rattle.std.specs.Prelude.{ℕ, zero, suc, ◌+◌, ◌-◌, ◌*◌, ◌^◌, ◌≤◌, ◌<◌, ◌≡◌, refl, Bool, true, false, List, [], ◌∷◌, ◌++◌, ltb, length}
-use Rattle.std.proofs.Common.{sym, ap, ◌∙◌, append_assoc, append-nil, arith, add-one, add-zero, add-suc, length-append, lt-ltb, le-ltb}
+use Rattle.std.proofs.Common.{sym, ap, ◌∙◌, append_assoc, append-nil, arith, add-one, add-zero, add-suc, length-append}
 use Rattle.scan.specs.Scan.{pick}
 use Rattle.decimal.specs.Digits.{digits, digits-short}
 use Rattle.decimal.specs.Write.{Put, put_long, put-none, put_then, put_as}

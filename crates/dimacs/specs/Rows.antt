@@ -2,14 +2,13 @@
 -- higher still. So it is in every mesh that is planned (`planned_rising`). Assumes nothing.
 use Rattle.std.specs.Prelude.{ℕ, zero, suc, ◌+◌, ◌-◌, ◌/◌, ◌^◌, ◌≤◌, ◌<◌, ◌≡◌, Bool, true, false, ◌&&◌, ◌⊎◌, List, [], ◌∷◌, ◌++◌, ltb}
 use Rattle.std.proofs.Math.Path.{refl, sym}
-use Rattle.std.proofs.Common.{ap, ap₂, ◌∙◌, subst, inl, inr, ⊎_elim, append-nil, arith, le-div_iff_mul-le, mul_comm, add-zero, add-suc, pow_pos, lt-ltb, le-ltb, ltb-true}
-use Rattle.std.proofs.Math.Decide.{ℕ_discrete}
+use Rattle.std.proofs.Common.{ap, ap₂, ◌∙◌, inl, inr, ⊎_elim, append-nil, arith, le-div_iff_mul-le, mul_comm, add-zero, add-suc, pow_pos, lt-ltb, le-ltb, ltb-true}
 use Rattle.std.proofs.Math.Nat.{mul-div-le}
 use Rattle.bits.specs.Bit.{flip}
 use Rattle.bits.specs.Laws.{flip-moves, lt-or-le}
 use Rattle.bits.specs.Parts.{flip-low-div, flip_high_div}
 use Rattle.scan.specs.Scan.{pick}
-use Rattle.scan.specs.Laws.{true-or, true-false, both_true}
+use Rattle.scan.specs.Laws.{true-or, both_true}
 use Rattle.paths.specs.Mesh.{Mesh}
 use Rattle.paths.specs.Links.{Links}
 use Rattle.cube.specs.Cube.{cube}

@@ -1,6 +1,6 @@
 -- What a file comes to, asked whether it is a mesh (`read_of`): 1, 52, 46; then 47 at the first malformed line; 48 where there is no `p` line or its counts are others; 49 at the first `e` line that
 -- is no link or stands before, in either direction; 50 where a link is missing; else yes. And what writing one tells and leaves (`write_told`, `write_leaves`).
-use Rattle.std.specs.Prelude.{ℕ, zero, suc, ◌+◌, ◌-◌, Bool, true, false, not, ◌&&◌, ◌||◌, List, [], ◌∷◌, ◌++◌, eqb, leb, ltb, length, drop}
+use Rattle.std.specs.Prelude.{ℕ, suc, ◌+◌, ◌-◌, Bool, true, false, not, ◌&&◌, ◌||◌, List, [], ◌∷◌, ◌++◌, eqb, leb, ltb, length, drop, Result, Ok, Err, ⊤}
 use Rattle.std.proofs.Math.Option.{Option, none, some}
 use Rattle.scan.specs.Scan.{Spot, nowhere, at, pick, any}
 use Rattle.answers.specs.Order.{Fault, first, export_faults, room_faults}
@@ -10,9 +10,16 @@ use Rattle.paths.specs.Mesh.{Mesh}
 use Rattle.mesh.specs.Kinds.{Kind, kind_of, mesh_of}
 use Rattle.mesh.specs.Says.{served_faults_in}
 use Rattle.dimacs.specs.Text.{Edge, edge, link_count, graph_text}
+use Rattle.dimacs.specs.declared.Fault as code
+use Rattle.dimacs.specs.declared.Fault.TheVariants.{Refused, Malformed, WrongCounts, WrongLink, Missing}
 use Rattle.dimacs.specs.Parse.{Line, comment, counts, link, malformed, lines_of}
-use Rattle.dimacs.specs.declared.Verdict.{Verdict}
-use Rattle.dimacs.specs.declared.Verdict.TheVariants.{Yes, Refused, Malformed, WrongCounts, WrongLink, Missing}
+
+-- what a file comes to: it is the mesh, or what stands against it
+abbrev pub Verdict : Type 0
+Verdict = Result ⊤ code.Fault
+
+abbrev pub yes : Verdict
+yes = Ok tt
 
 -- the most relays of a mesh that is exported
 abbrev pub most_relays : ℕ
@@ -84,11 +91,11 @@ missing m es = any (λ u. any (absent m es u) 0 m.relays) 0 m.relays
 
 abbrev pub or_malformed : Spot → Verdict → Verdict
 or_malformed nowhere v = v
-or_malformed (at k) v = Malformed k
+or_malformed (at k) v = Err (Malformed k)
 
 abbrev pub or_wrong : Spot → Verdict → Verdict
 or_wrong nowhere v = v
-or_wrong (at k) v = WrongLink k
+or_wrong (at k) v = Err (WrongLink k)
 
 -- of a mesh that is exported
 abbrev pub judged : Mesh → List Line → Verdict
@@ -96,31 +103,39 @@ judged m ls =
     or_malformed (malformed_at false 0 ls)
     (pick (counted m.relays (link_count m) ls)
     (or_wrong (wrong_at m [] 0 ls)
-    (pick (missing m (edges_of ls)) Missing Yes))
-    WrongCounts)
+    (pick (missing m (edges_of ls)) (Err Missing) yes))
+    (Err WrongCounts))
 
 abbrev pub or_refused : Option Refusal → Verdict → Verdict
 or_refused none v = v
-or_refused (some why) v = Refused why
+or_refused (some why) v = Err (Refused why)
 
 abbrev pub read_of : (kind size : ℕ) (text : List ℕ) → Verdict
 read_of kind size text = or_refused (first (export_faults_in (kind_of kind) size)) (judged (mesh_of kind size) (lines_of text))
 
+-- the number of what stands against a file, and the line that is told with it
+abbrev pub fault_number : code.Fault → ℕ
+fault_number (Refused why) = number why
+fault_number (Malformed k) = 47
+fault_number WrongCounts = 48
+fault_number (WrongLink k) = 49
+fault_number Missing = 50
+
+abbrev pub fault_place : code.Fault → ℕ
+fault_place (Refused why) = place why
+fault_place (Malformed k) = k
+fault_place WrongCounts = 0
+fault_place (WrongLink k) = k
+fault_place Missing = 0
+
+-- the same of what a file comes to: 0 for yes
 abbrev pub number_of : Verdict → ℕ
-number_of Yes = 0
-number_of (Refused why) = number why
-number_of (Malformed k) = 47
-number_of WrongCounts = 48
-number_of (WrongLink k) = 49
-number_of Missing = 50
+number_of (Ok x) = 0
+number_of (Err why) = fault_number why
 
 abbrev pub place_of : Verdict → ℕ
-place_of Yes = 0
-place_of (Refused why) = place why
-place_of (Malformed k) = k
-place_of WrongCounts = 0
-place_of (WrongLink k) = k
-place_of Missing = 0
+place_of (Ok x) = 0
+place_of (Err why) = fault_place why
 
 -- ---- writing
 

@@ -1,6 +1,6 @@
 -- A mesh as the text of a DIMACS edge file (`graph_text`): a line `p edge N M` with the counts of relays and links, then a line `e U V` for each link, the lower relay first,
 -- ordered by the lower and then the higher, every relay one above its number here. Assumes nothing.
-use Rattle.std.specs.Prelude.{ℕ, zero, suc, ◌+◌, ◌*◌, ◌/◌, ◌≡◌, refl, Bool, ◌&&◌, List, [], ◌∷◌, ◌++◌, ltb}
+use Rattle.std.specs.Prelude.{ℕ, zero, suc, ◌+◌, ◌*◌, ◌/◌, ◌&&◌, List, [], ◌∷◌, ◌++◌, ltb}
 use Rattle.scan.specs.Scan.{pick}
 use Rattle.paths.specs.Mesh.{Mesh}
 use Rattle.line.specs.Text.{spaced, line_end}

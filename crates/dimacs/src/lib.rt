@@ -5,7 +5,7 @@ ghost use Rattle.std.specs.Prelude.{◌≡◌};
 ghost use Rattle.answers.specs.Told.{against};
 ghost use Rattle.answers.specs.Order.{first};
 ghost use Rattle.mesh.specs.Kinds.{kind_of};
-ghost use Rattle.dimacs.specs.Says.{export_faults_in, number_of, place_of};
+ghost use Rattle.dimacs.specs.Says.{export_faults_in, fault_number, fault_place};
 
 use answers::{Checked, Refusal};
 use mesh::Mesh;
@@ -16,11 +16,9 @@ pub const MOST_RELAYS: u64 = 2048;
 // The bytes that are enough for every file: a cube of 11 dimensions takes 123,009.
 pub const MOST_BYTES: usize = 123009;
 
-// What a file is, asked whether it is a mesh.
+// What stands against a file that is to be a mesh. Where nothing does, it is the mesh, with each link once.
 #[derive(Clone, Copy)]
-pub enum Verdict {
-    // 0: it is the mesh, with each link once.
-    Yes,
+pub enum Fault {
     // 1, 52, 46: there is no such mesh, or none that is exported.
     Refused(Refusal),
     // 47: a line is malformed; its number, from 1.
@@ -33,32 +31,30 @@ pub enum Verdict {
     Missing,
 }
 
-impl Verdict {
-    // The specification's number: 0 for yes.
+impl Fault {
+    // The specification's number.
     pub fn number(self) -> u64
-        ensures { result ≡ number_of self }
+        ensures { result ≡ fault_number self }
     {
         match self {
-            Verdict::Yes => 0,
-            Verdict::Refused(why) => why.number(),
-            Verdict::Malformed(_) => 47,
-            Verdict::WrongCounts => 48,
-            Verdict::WrongLink(_) => 49,
-            Verdict::Missing => 50,
+            Fault::Refused(why) => why.number(),
+            Fault::Malformed(_) => 47,
+            Fault::WrongCounts => 48,
+            Fault::WrongLink(_) => 49,
+            Fault::Missing => 50,
         }
     }
 
     // The line that is told with 47 and 49; else 0.
     pub fn place(self) -> usize
-        ensures { result ≡ place_of self }
+        ensures { result ≡ fault_place self }
     {
         match self {
-            Verdict::Yes => 0,
-            Verdict::Refused(why) => why.place(),
-            Verdict::Malformed(line) => line,
-            Verdict::WrongCounts => 0,
-            Verdict::WrongLink(line) => line,
-            Verdict::Missing => 0,
+            Fault::Refused(why) => why.place(),
+            Fault::Malformed(line) => line,
+            Fault::WrongCounts => 0,
+            Fault::WrongLink(line) => line,
+            Fault::Missing => 0,
         }
     }
 }

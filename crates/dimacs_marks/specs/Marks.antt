@@ -1,53 +1,27 @@
 -- Marks of links (`Marked`): bit i of a relay's mark is set where its link i, which leads higher, stands among the `e` lines seen. A line is marked where it is a link that is not marked (`Marks`), and
 -- marks that lack a link are those of lines among which it is missing (`lacking-missing`). Assumes nothing.
-use Rattle.std.specs.Prelude.{ℕ, zero, suc, ◌+◌, ◌-◌, ◌^◌, ◌≤◌, ◌<◌, ◌≡◌, refl, Bool, true, false, not, ◌&&◌, ◌⊎◌, ◌≢◌, List, [], ◌∷◌, eqb, ltb, leb, length, get_or, set, replicate}
-use Rattle.std.proofs.Common.{sym, ap, ap₂, ◌∙◌, subst, inl, inr, ⊎_elim, arith, length-set, get_or-set_same, get_or-set_other, eqb-true, eq-eqb, ne_eqb, lt-ltb, le-ltb, ltb-true, ltb-false}
+use Rattle.std.specs.Prelude.{ℕ, zero, suc, ◌+◌, ◌-◌, ◌^◌, ◌≤◌, ◌<◌, ◌≡◌, refl, Bool, true, false, not, ◌&&◌, ◌≢◌, List, [], ◌∷◌, eqb, ltb, length, get_or, set, replicate, Option, Some, None}
+use Rattle.std.proofs.Common.{sym, ap, ap₂, ◌∙◌, ⊎_elim, arith, length-set, get_or-set_same, get_or-set_other, eq-eqb, lt-ltb, le-ltb, ltb-true}
 use Rattle.std.proofs.Math.Decide.{ℕ_discrete}
-use Rattle.std.proofs.lemmas.List.{length-replicate}
-use Rattle.std.proofs.lemmas.Bool.{lt-leb, not-true, not-false}
+use Rattle.std.proofs.lemmas.Bool.{not-true}
 use Rattle.bits.specs.Bit.{bit, flip}
-use Rattle.bits.specs.Laws.{flip-lt, flip-same, flip-other, bit_off, bit-on, bit-none}
+use Rattle.bits.specs.Laws.{flip-lt, flip-same, flip-other, bit_off, bit-none}
 use Rattle.scan.specs.Scan.{pick, any}
 use Rattle.scan.specs.Laws.{true-or, true-false, tests_same, both_true, any-true, true-any}
 use Rattle.scan.specs.Laws as scan
-use Rattle.paths.specs.Mesh.{Mesh}
 use Rattle.paths.specs.Links.{Links}
 use Rattle.mesh.specs.Kinds.{kind_of, mesh_of}
 use Rattle.dimacs.specs.Text.{Edge, edge}
 use Rattle.dimacs.specs.Says.{is_link, same, times, stands, absent, missing}
-use Rattle.dimacs.specs.Edges.{all_true, and-false, same_cases, same_straight, times-on, times_off, times_none, times-turn, times_turned, IsLink, link_sound, link_complete, link-turn, link-other}
-use Rattle.dimacs.specs.Needs.{Exported, Rowed, Linking, export_rising}
+use Rattle.dimacs.specs.Edges.{all_true, same_cases, same_straight, times-on, times_off, times_none, times-turn, times_turned, link_sound, link_complete, link-turn, link-other}
+use Rattle.dimacs.specs.Needs.{Rowed, export_rising}
 use Rattle.dimacs_size.specs.Sizes.{Rows}
 
 -- ---- a link found
 
-pub record Leads (k n links u v r : ℕ) : Type 0 where
-  pub within : r ≤ links
-  pub found : r < links → (kind_of k).near n u r ≡ v
-  pub lost : links ≤ r → (i : ℕ) → i < links → (kind_of k).near n u i ≢ v
-
--- the loop has come to i
-pub record Looking (k n links u v i : ℕ) : Type 0 where
-  pub within : i ≤ links
-  pub past : (j : ℕ) → j < i → (kind_of k).near n u j ≢ v
-
-module _ (k n links u v : ℕ) where
-  pub look-start : Looking k n links u v 0
-  look-start = record { within = omega arith; past = λ j h. absurd (omega arith) }
-
-  module _ {i : ℕ} (l : Looking k n links u v i) where
-    pub look-more : {w : ℕ} → i < links → w ≡ (kind_of k).near n u i → w ≢ v → Looking k n links u v (i + 1)
-    look-more {w} h e ne = record { within = omega arith; past = λ j g. go j g (ℕ_discrete j i) }
-      where
-        go : (j : ℕ) → j < i + 1 → Dec (j ≡ i) → (kind_of k).near n u j ≢ v
-        go j g (yes z) q = ne (e ∙ ap ((kind_of k).near n u) (sym z) ∙ q)
-        go j g (no z) q = l.past j (omega arith) q
-
-    pub look-found : {w : ℕ} → i < links → w ≡ (kind_of k).near n u i → w ≡ v → Leads k n links u v i
-    look-found h e z = record { within = l.within; found = λ g. sym e ∙ z; lost = λ g. absurd (omega arith) }
-
-    pub look_lost : links ≤ i → Leads k n links u v i
-    look_lost h = record { within = l.within; found = λ g. absurd (omega arith); lost = λ g j q. l.past j (omega (arith, l.within)) }
+abbrev pub Leads : (k n links u v : ℕ) → Option ℕ → Type 0
+Leads k n links u v (Some i) = (i < links) × ((kind_of k).near n u i ≡ v)
+Leads k n links u v None = (i : ℕ) → i < links → (kind_of k).near n u i ≢ v
 
 -- ---- a mark put
 
@@ -113,25 +87,25 @@ module _ {k n relays links : ℕ} (r : Rows k n relays links) (a b : ℕ) where
   pub lower_row : a ≢ 0 → a < b → b ≤ relays → Rowed k n links (a - 1)
   lower_row ne h g = record { exported = r.exported; count = r.links_are; relay = omega (arith, r.relays_are) }
 
-  pub not-linked : {was : List ℕ} {i : ℕ} → Leads k n links (a - 1) (b - 1) i → links ≤ i → Marks k n a b was false was
-  not-linked w h = no_link (scan.not-true (λ t.
+  pub not-linked : {was : List ℕ} → Leads k n links (a - 1) (b - 1) None → Marks k n a b was false was
+  not-linked w = no_link (scan.not-true (λ t.
       let l = link_sound (mesh_of k n) a b t in
       let (j, g, z) = edges-links.all (a - 1) (b - 1) (omega (arith, l.first, l.first_in)) (omega (arith, l.second, l.second_in)) l.linked in
-      w.lost h j (omega (arith, r.links_are)) z))
+      w j (omega (arith, r.links_are)) z))
 
   -- where there is a link, what was put says whether it was marked
-  module _ (ne : a ≢ 0) (h : a < b) (g : b ≤ relays) {i : ℕ} (w : Leads k n links (a - 1) (b - 1) i) (l : i < links) where
+  module _ (ne : a ≢ 0) (h : a < b) (g : b ≤ relays) {i : ℕ} (w : Leads k n links (a - 1) (b - 1) (Some i)) where
     to : (kind_of k).near n (a - 1) i ≡ b - 1
-    to = w.found l
+    to = w.1
 
     pub link-few : i < 16
-    link-few = omega (arith, r.links_are, r.exported.few)
+    link-few = omega (arith, w.0, r.links_are, r.exported.few)
 
     relay_in : a - 1 < (mesh_of k n).relays
     relay_in = omega (arith, r.relays_are)
 
     link_in : i < (mesh_of k n).links
-    link_in = omega (arith, r.links_are)
+    link_in = omega (arith, w.0, r.links_are)
 
     is_link_lem : is_link (mesh_of k n) a b ≡ true
     is_link_lem = link_complete (mesh_of k n) a b (record {

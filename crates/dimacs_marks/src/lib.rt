@@ -9,25 +9,17 @@ ghost use Rattle.dimacs_marks.specs.Marks as marks;
 
 use mesh::Mesh;
 
-fn wide(x: u16) -> u64
-    ensures { result ≡ x }
-{
-    x as u64
-}
-
-// Which link of a relay leads to another; as many as it has links where none does.
-fn link_to(mesh: Mesh, links: u64, u: u64, v: u64) -> u64
+// Which link of a relay leads to another.
+fn link_to(mesh: Mesh, links: u64, u: u64, v: u64) -> Option<u64>
     requires { Rowed mesh.kind mesh.size links u }
     ensures { marks.Leads mesh.kind mesh.size links u v result }
 {
-    let mut i: u64 = 0;
-    while i < links {
+    for i in 0..links {
         if mesh::near(mesh, u, i) == v {
-            return i;
+            return Some(i);
         }
-        i += 1;
     }
-    i
+    None
 }
 
 // Marks link i of a relay, if it is not marked yet.
@@ -35,7 +27,7 @@ fn put(u: usize, i: u32, seen: &mut [u16]) -> bool
     requires { (u < length seen.old) × (i < 16) }
     ensures { marks.Put seen.old u i result seen.new }
 {
-    let mark = wide(seen[u]);
+    let mark = u64::from(seen[u]);
     if bits::bit(mark, i) {
         return false;
     }
@@ -49,16 +41,12 @@ fn mark_up(mesh: Mesh, relays: u64, links: u64, a: u64, b: u64, seen: &mut [u16]
     requires seen_len { (length seen.old ≡ 2048) × (a < b) }
     ensures { marks.Marks mesh.kind mesh.size a b seen.old result seen.new }
 {
-    if a == 0 {
+    if a == 0 || relays < b {
         return false;
     }
-    if relays < b {
+    let Some(i) = link_to(mesh, links, a - 1, b - 1) else {
         return false;
-    }
-    let i = link_to(mesh, links, a - 1, b - 1);
-    if links <= i {
-        return false;
-    }
+    };
     put((a - 1) as usize, i as u32, seen)
 }
 
@@ -82,10 +70,7 @@ fn lacking(mesh: Mesh, u: u64, i: u64, mark: u64) -> bool
     requires { Linking mesh.kind mesh.size u i }
     ensures { result ≡ marks.lacks mesh.kind mesh.size u mark i }
 {
-    if u < mesh::near(mesh, u, i) {
-        return !bits::bit(mark, i as u32);
-    }
-    false
+    u < mesh::near(mesh, u, i) && !bits::bit(mark, i as u32)
 }
 
 // Whether a link of a relay is lacking.
@@ -93,12 +78,10 @@ fn any_link(mesh: Mesh, links: u64, u: u64, mark: u64) -> bool
     requires { Rowed mesh.kind mesh.size links u }
     ensures { result ≡ any (marks.lacks mesh.kind mesh.size u mark) 0 links }
 {
-    let mut i: u64 = 0;
-    while i < links {
+    for i in 0..links {
         if lacking(mesh, u, i, mark) {
             return true;
         }
-        i += 1;
     }
     false
 }
@@ -109,12 +92,10 @@ pub fn any_lacking(mesh: Mesh, relays: u64, links: u64, seen: &[u16]) -> bool
     requires seen_len { length seen.now ≡ 2048 }
     ensures { result ≡ any (marks.lacks_any mesh.kind mesh.size links seen.now) 0 relays }
 {
-    let mut u: u64 = 0;
-    while u < relays {
-        if any_link(mesh, links, u, wide(seen[u as usize])) {
+    for u in 0..relays {
+        if any_link(mesh, links, u, u64::from(seen[u as usize])) {
             return true;
         }
-        u += 1;
     }
     false
 }

@@ -3,66 +3,40 @@ ghost use Rattle.std.specs.Prelude.{◌<◌, length};
 ghost use Rattle.dimacs.specs.Parse.{lines_of};
 ghost use Rattle.dimacs_read.specs.Forms as forms;
 
-use dimacs_take::Piece;
+use dimacs_take::Line;
 
-// The place after a line; whether there was a `p` line up to it, and its counts. Or a line that is malformed.
-#[derive(Clone, Copy)]
-enum Step {
-    To(usize, bool, u64, u64),
-    Bad,
-}
-
-// What the lines come to: a malformed one, from 1; no `p` line; or the counts in it.
-#[derive(Clone, Copy)]
-pub enum Form {
-    Malformed(usize),
-    Headless,
-    Counted(u64, u64),
-}
-
-// One line.
-fn next_line(text: &[u8], at: usize, headed: bool, relays: u64, links: u64) -> Step
+// One line, behind lines that told these counts: the counts that are told then, and the place after it. None where it is malformed, tells counts again or is an `e` line before any.
+fn next_line(
+    text: &[u8],
+    at: usize,
+    told: Option<(u64, u64)>,
+) -> Option<(Option<(u64, u64)>, usize)>
     requires { at < length text.now }
-    ensures { forms.Stepped text.now at headed relays links result }
+    ensures { forms.Stepped text.now at told result }
 {
-    match dimacs_take::line_at(text, at) {
-        Piece::Comment(next) => Step::To(next, headed, relays, links),
-        Piece::Counts(n, m, next) => {
-            if headed {
-                return Step::Bad;
-            }
-            Step::To(next, true, n, m)
-        }
-        Piece::Link(_, _, next) => {
-            if headed {
-                return Step::To(next, headed, relays, links);
-            }
-            Step::Bad
-        }
-        Piece::Malformed => Step::Bad,
+    let (line, next) = dimacs_take::line_at(text, at)?;
+    match (line, told) {
+        (Line::Comment, _) => Some((told, next)),
+        (Line::Counts(n, m), None) => Some((Some((n, m)), next)),
+        (Line::Link(_, _), Some(_)) => Some((told, next)),
+        _ => None,
     }
 }
 
-pub fn formed(text: &[u8]) -> Form
+// The counts that a file tells, none where it has no `p` line; or its first line that is malformed, from 1.
+pub fn formed(text: &[u8]) -> Result<Option<(u64, u64)>, usize>
     ensures { forms.Formed (lines_of text.now) result }
 {
-    let mut at: usize = 0;
-    let mut line: usize = 0;
-    let mut headed = false;
-    let mut relays: u64 = 0;
-    let mut links: u64 = 0;
+    let mut at = 0usize;
+    let mut line = 0usize;
+    let mut counts = None;
     while at < text.len() {
-        let Step::To(next, after, n, m) = next_line(text, at, headed, relays, links) else {
-            return Form::Malformed(line + 1);
+        let Some((told, next)) = next_line(text, at, counts) else {
+            return Err(line + 1);
         };
+        counts = told;
         at = next;
         line += 1;
-        headed = after;
-        relays = n;
-        links = m;
     }
-    if headed {
-        return Form::Counted(relays, links);
-    }
-    Form::Headless
+    Ok(counts)
 }

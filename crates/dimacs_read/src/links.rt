@@ -5,110 +5,83 @@ ghost use Rattle.dimacs.specs.Needs.{Exported};
 ghost use Rattle.dimacs_size.specs.Sizes.{Rows};
 ghost use Rattle.dimacs_read.specs.Turns as turns;
 
-use crate::form::{Form, formed};
+use crate::form::formed;
 use answers::Checked;
-use dimacs::Verdict;
-use dimacs_take::Piece;
+use dimacs::Fault;
+use dimacs_take::Line;
 use mesh::Mesh;
-use scan::Spot;
 
-// The place after a line that is right; one that is wrong; or no more lines.
-#[derive(Clone, Copy)]
-enum Turn {
-    To(usize),
-    Wrong,
-    Over,
-}
-
-// One line, and its link marked.
-fn take(mesh: Mesh, relays: u64, links: u64, text: &[u8], at: usize, marks: &mut [u16]) -> Turn
+// Whether a line is right: an `e` line where it is a link that is not marked, which is marked then; every other.
+fn right(mesh: Mesh, relays: u64, links: u64, line: Line, marks: &mut [u16]) -> bool
     requires rows { Rows mesh.kind mesh.size relays links }
-    requires marks_len { (length marks.old ≡ 2048) × (at < length text.now) }
-    ensures { turns.Turned mesh.kind mesh.size text.now at marks.old result marks.new }
+    requires marks_len { length marks.old ≡ 2048 }
+    ensures { turns.Passes mesh.kind mesh.size line marks.old result marks.new }
 {
-    match dimacs_take::line_at(text, at) {
-        Piece::Comment(next) => Turn::To(next),
-        Piece::Counts(_, _, next) => Turn::To(next),
-        Piece::Link(a, b, next) => {
-            if dimacs_marks::mark(mesh, relays, links, a, b, marks) {
-                return Turn::To(next);
-            }
-            Turn::Wrong
-        }
-        Piece::Malformed => Turn::Over,
+    match line {
+        Line::Link(a, b) => dimacs_marks::mark(mesh, relays, links, a, b, marks),
+        _ => true,
     }
 }
 
 // The first line that is wrong, from 1.
-fn wrong(mesh: Mesh, relays: u64, links: u64, text: &[u8], marks: &mut [u16]) -> Spot
+fn wrong(mesh: Mesh, relays: u64, links: u64, text: &[u8], marks: &mut [u16]) -> Option<usize>
     requires rows { Rows mesh.kind mesh.size relays links }
     requires marks_len { length marks.old ≡ 2048 }
     ensures { turns.Judged mesh.kind mesh.size text.now marks.old result marks.new }
 {
-    let mut at: usize = 0;
-    let mut line: usize = 0;
+    let mut at = 0usize;
+    let mut line = 0usize;
     while at < text.len() {
-        match take(mesh, relays, links, text, at, marks) {
-            Turn::To(next) => {
-                at = next;
-                line += 1;
-            }
-            Turn::Wrong => {
-                return Spot::At(line + 1);
-            }
-            Turn::Over => {
-                return Spot::Nowhere;
-            }
+        let (piece, next) = dimacs_take::line_at(text, at)?;
+        if !right(mesh, relays, links, piece, marks) {
+            return Some(line + 1);
         }
+        at = next;
+        line += 1;
     }
-    Spot::Nowhere
+    None
 }
 
 // A file whose counts are right.
-fn linked(mesh: Mesh, relays: u64, links: u64, text: &[u8]) -> Verdict
+fn linked(mesh: Mesh, relays: u64, links: u64, text: &[u8]) -> Result<(), Fault>
     requires { Rows mesh.kind mesh.size relays links }
     ensures { result ≡ turns.links_of mesh.kind mesh.size text.now }
 {
     let mut marks = [0u16; 2048];
-    match wrong(mesh, relays, links, text, &mut marks) {
-        Spot::At(line) => Verdict::WrongLink(line),
-        Spot::Nowhere => {
-            if dimacs_marks::any_lacking(mesh, relays, links, &marks) {
-                return Verdict::Missing;
-            }
-            Verdict::Yes
-        }
+    if let Some(line) = wrong(mesh, relays, links, text, &mut marks) {
+        return Err(Fault::WrongLink(line));
     }
+    if dimacs_marks::any_lacking(mesh, relays, links, &marks) {
+        return Err(Fault::Missing);
+    }
+    Ok(())
 }
 
 // A file with these counts.
-fn counted(mesh: Mesh, n: u64, m: u64, text: &[u8]) -> Verdict
+fn counted(mesh: Mesh, n: u64, m: u64, text: &[u8]) -> Result<(), Fault>
     requires { Exported mesh.kind mesh.size }
     ensures { result ≡ turns.counted_of mesh.kind mesh.size n m text.now }
 {
     let relays = mesh::relays_in(mesh);
     let links = mesh::links_in(mesh);
-    if n != relays {
-        return Verdict::WrongCounts;
-    }
-    if m != relays * links / 2 {
-        return Verdict::WrongCounts;
+    if n != relays || m != relays * links / 2 {
+        return Err(Fault::WrongCounts);
     }
     linked(mesh, relays, links, text)
 }
 
-// Reads a DIMACS edge file and says whether it is the mesh, each link once, in any order and either direction, with comment lines anywhere. Refuses with 1, 52, 46; else with 47 and the first
+// Reads a DIMACS edge file: nothing stands against it where it is the mesh, each link once, in any order and either direction, with comment lines anywhere. Refuses with 1, 52, 46; else with 47 and the first
 // malformed line, from 1; 48 where there is no `p` line or its counts are others; 49 and the first `e` line that is no link or stands before; 50 where links are missing.
-pub fn read(mesh: Mesh, text: &[u8]) -> Verdict
+pub fn read(mesh: Mesh, text: &[u8]) -> Result<(), Fault>
     ensures { result ≡ read_of mesh.kind mesh.size text.now }
 {
     let export = dimacs::exported(mesh);
     if let Checked::Refused(why) = export {
-        return Verdict::Refused(why);
+        return Err(Fault::Refused(why));
     }
     match formed(text) {
-        Form::Malformed(line) => Verdict::Malformed(line),
-        Form::Headless => Verdict::WrongCounts,
-        Form::Counted(n, m) => counted(mesh, n, m, text),
+        Err(line) => Err(Fault::Malformed(line)),
+        Ok(None) => Err(Fault::WrongCounts),
+        Ok(Some((n, m))) => counted(mesh, n, m, text),
     }
 }

@@ -1,10 +1,9 @@
 -- What the functions that count bytes ask, and what their loops owe. Assumes nothing.
-use Rattle.std.specs.Prelude.{ℕ, ◌+◌, ◌*◌, ◌/◌, ◌%◌, ◌^◌, ◌≤◌, ◌<◌, List, [], ◌∷◌, ◌≡◌, refl, length}
-use Rattle.std.proofs.Common.{sym, ap, ap₂, ◌∙◌, arith, mul-le-mul, length-append}
+use Rattle.std.specs.Prelude.{ℕ, ◌+◌, ◌*◌, ◌/◌, ◌%◌, ◌^◌, ◌≤◌, ◌<◌, List, [], ◌∷◌, ◌≡◌, length}
+use Rattle.std.proofs.Common.{ap, ap₂, ◌∙◌, arith, mul-le-mul, length-append}
 use Rattle.decimal.specs.Digits.{glyph, digits, digits-one, digits_more, digits-some, digits-short}
-use Rattle.paths.specs.Mesh.{Mesh}
 use Rattle.mesh.specs.Kinds.{kind_of, mesh_of}
-use Rattle.dimacs.specs.Text.{Edge, edges_text, each, row, edges, graph_text, link_count}
+use Rattle.dimacs.specs.Text.{Edge, edges_text, each, row, edges, graph_text}
 use Rattle.dimacs.specs.Rows.{onward}
 use Rattle.dimacs.specs.Pieces.{Summing, sum-all, onward_blank, onward_long}
 use Rattle.dimacs.specs.Needs.{Exported, Rowed, Linking, linking, link_of, near_small, row-links, link-short, links-short, row-short, rows_short, graph_long, all-rows}

@@ -15,9 +15,9 @@ fn width(n: u64) -> usize
     ensures { result ≡ length (digits n) }
 {
     let mut rest = n;
-    let mut k: usize = 1;
+    let mut k = 1usize;
     while 10 <= rest {
-        rest = rest / 10;
+        rest /= 10;
         k += 1;
     }
     k
@@ -40,11 +40,9 @@ fn row_bytes(mesh: Mesh, links: u64, u: u64) -> usize
     requires { Rowed mesh.kind mesh.size links u }
     ensures { result ≡ length (edges_text (row (mesh_of mesh.kind mesh.size) u)) }
 {
-    let mut sum: usize = 0;
-    let mut i: u64 = 0;
-    while i < links {
+    let mut sum = 0usize;
+    for i in 0..links {
         sum += link_bytes(mesh, u, i);
-        i += 1;
     }
     sum
 }
@@ -54,11 +52,9 @@ fn rows_bytes(mesh: Mesh, relays: u64, links: u64) -> usize
     requires { Rows mesh.kind mesh.size relays links }
     ensures { result ≡ length (edges_text (edges (mesh_of mesh.kind mesh.size))) }
 {
-    let mut sum: usize = 0;
-    let mut u: u64 = 0;
-    while u < relays {
+    let mut sum = 0usize;
+    for u in 0..relays {
         sum += row_bytes(mesh, links, u);
-        u += 1;
     }
     sum
 }

@@ -1,25 +1,25 @@
 -- What the writer owes at each of its ends. Assumes nothing.
-use Rattle.std.specs.Prelude.{ℕ, ◌+◌, ◌*◌, ◌/◌, ◌≤◌, ◌<◌, ◌≡◌, refl, Bool, true, false, ltb, length, drop, set}
-use Rattle.std.proofs.Common.{sym, ap₂, ◌∙◌, arith, length-append, lt-ltb, le-ltb}
+use Rattle.std.specs.Prelude.{ℕ, ◌+◌, ◌*◌, ◌/◌, ◌≤◌, ◌<◌, ◌≡◌, Bool, ltb, length, drop, set}
+use Rattle.std.proofs.Common.{sym, ap₂, ◌∙◌, arith, lt-ltb, le-ltb}
 use Rattle.std.proofs.Math.Path.{ap}
 use mathlib.Core.List.{List, [], ◌∷◌, ◌++◌}
-use Rattle.std.proofs.Math.Option.{Option, none, some}
-use Rattle.answers.specs.Order.{Fault, first, room_faults}
+use Rattle.std.proofs.Math.Option.{none, some}
+use Rattle.answers.specs.Order.{first}
 use Rattle.answers.specs.Pairs.{lent_refused, lent-short, lent-fine}
-use Rattle.answers.specs.Told.{told, tell, leaves, against}
+use Rattle.answers.specs.Told.{tell, against}
 use Rattle.answers.specs.declared.Checked.{Checked}
 use Rattle.answers.specs.declared.Checked.TheVariants as checked
 use Rattle.answers.specs.declared.Refusal.{Refusal}
 use Rattle.answers.specs.declared.Refusal.TheVariants.{NoRoom}
-use Rattle.decimal.specs.Write.{Put, put_long, put-none, put_then, put_byte, put_as}
+use Rattle.decimal.specs.Write.{Put, put_long, put_then, put_byte, put_as}
 use Rattle.line.specs.Text.{spaced, line_end}
 use Rattle.line_put.specs.Writes.{put_front, first-room, then_room}
 use Rattle.mesh.specs.Kinds.{kind_of, mesh_of}
-use Rattle.dimacs.specs.Text.{Edge, edge, counts_word, pair_text, edge_text, edges_text, each, row, edges, link_count, graph_text}
+use Rattle.dimacs.specs.Text.{edge, counts_word, pair_text, edge_text, edges_text, each, row, edges, link_count, graph_text}
 use Rattle.dimacs.specs.Rows.{onward}
 use Rattle.dimacs.specs.Pieces.{Eaching, each-room, each_all, onward-text, onward_blank}
 use Rattle.dimacs.specs.Needs.{Exported, Rowed, Linking, link_of, row-links, near_small, all-rows, export_fine}
-use Rattle.dimacs.specs.Says.{export_faults_in, write_against, write_told, write_leaves}
+use Rattle.dimacs.specs.Says.{export_faults_in, write_told, write_leaves}
 use Rattle.dimacs_size.specs.Sizes.{Rows}
 
 -- ---- a line

@@ -43,10 +43,8 @@ fn put_row(mesh: Mesh, links: u64, u: u64, out: &mut [u8], at: usize) -> usize
     ensures { Put out.old at (edges_text (row (mesh_of mesh.kind mesh.size) u)) result out.new }
 {
     let mut p = at;
-    let mut i: u64 = 0;
-    while i < links {
+    for i in 0..links {
         p = put_link(mesh, u, i, out, p);
-        i += 1;
     }
     p
 }
@@ -58,10 +56,8 @@ fn put_rows(mesh: Mesh, relays: u64, links: u64, out: &mut [u8], at: usize) -> u
     ensures { Put out.old at (edges_text (edges (mesh_of mesh.kind mesh.size))) result out.new }
 {
     let mut p = at;
-    let mut u: u64 = 0;
-    while u < relays {
+    for u in 0..relays {
         p = put_row(mesh, links, u, out, p);
-        u += 1;
     }
     p
 }

@@ -31,20 +31,6 @@ fn read_some<R: Read>(from: &mut R, buf: &mut [u8], n: usize) -> io::Result<usiz
     from.read(&mut buf[n..])
 }
 
-// Whether a line end stands in a text.
-fn has_end(text: &[u8]) -> bool
-    ensures { result ≡ any (is_end text.now) 0 (length text.now) }
-{
-    let mut i: usize = 0;
-    while i < text.len() {
-        if text[i] == b'\n' {
-            return true;
-        }
-        i += 1;
-    }
-    false
-}
-
 // Reads until a line end has come, the room of a line is full or the input ends. What came is what the reader had. A read fails only while there is room
 // and no line end has come: what had come before it is what the reader lost.
 pub fn read_line<R: Read>(from: &mut R, buf: &mut [u8]) -> io::Result<Input>
@@ -65,7 +51,7 @@ pub fn read_line<R: Read>(from: &mut R, buf: &mut [u8]) -> io::Result<Input>
             });
         }
         n += got;
-        if has_end(&buf[..n]) {
+        if buf[..n].contains(&b'\n') {
             return Ok(Input {
                 bytes: n,
                 ended: false,

@@ -2,6 +2,7 @@
 pub mod Text
 pub mod Parse
 pub mod Lines
+pub mod Listed
 pub mod Says
 pub mod Written
 pub mod Unique

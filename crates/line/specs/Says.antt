@@ -1,13 +1,12 @@
 -- What the reader of a line tells, and what it leaves in the places lent for the targets: 10 where a text states no request, 8 where there are fewer
 -- places than targets, else the request. Assumes nothing.
-use Rattle.std.specs.Prelude.{ℕ, Bool, true, false, List, [], ◌++◌, ltb, length, drop}
+use Rattle.std.specs.Prelude.{ℕ, Bool, true, false, List, [], ◌++◌, Result, Ok, Err, ltb, length, drop}
 use Rattle.std.proofs.Math.Option.{Option, none, some}
 use Rattle.answers.specs.Order.{Fault, first, read_faults, room_faults}
 use Rattle.answers.specs.Told.{Told, told, tell, leaves}
 use Rattle.answers.specs.declared.Refusal.{Refusal}
 use Rattle.line.specs.Text.{Request}
-use Rattle.line.specs.declared.Line.{Line}
-use Rattle.line.specs.declared.Line.TheVariants as line
+use Rattle.line.specs.declared.Asked.{Asked}
 
 -- what is told of a request beside its targets: kind, size, source and how many targets
 pub data Head : Type 0 where
@@ -16,9 +15,9 @@ pub data Head : Type 0 where
 abbrev pub no_head : Head
 no_head = head 0 0 0 0
 
-abbrev pub line_told : Line → Told Head
-line_told (line.Request a) = told 0 0 (head a.mesh.kind a.mesh.size a.source a.count)
-line_told (line.Refused why) = tell (some why) no_head no_head
+abbrev pub line_told : Result Asked Refusal → Told Head
+line_told (Ok a) = told 0 0 (head a.mesh.kind a.mesh.size a.source a.count)
+line_told (Err why) = tell (some why) no_head no_head
 
 -- of the request that a text states, if it states one
 abbrev pub unread : Option Request → Bool

@@ -1,7 +1,6 @@
 // A request line and its answer as text. `line_read` reads the one, and `line_write` writes the other.
 #![tactic(auto)]
 
-use answers::Refusal;
 use mesh::Mesh;
 
 // The most bytes of a request line, its line end included.
@@ -13,11 +12,4 @@ pub struct Asked {
     pub mesh: Mesh,
     pub source: u64,
     pub count: usize,
-}
-
-// A request, or why there is none: 10 for a line that cannot be read, 8 for more targets than there are places for.
-#[derive(Clone, Copy)]
-pub enum Line {
-    Request(Asked),
-    Refused(Refusal),
 }

@@ -22,10 +22,8 @@ fn put_list(out: &mut [u8], at: usize, list: &[u64]) -> usize
     ensures { Put out.old at (spaced list.now) result out.new }
 {
     let mut p = at;
-    let mut i: usize = 0;
-    while i < list.len() {
-        p = put_next(out, p, list[i]);
-        i += 1;
+    for n in list {
+        p = put_next(out, p, *n);
     }
     p
 }
@@ -44,12 +42,9 @@ fn put_word(out: &mut [u8], word: &[u8]) -> usize
     requires { 0 + length word.now ≤ length out.old }
     ensures { Put out.old 0 word.now result out.new }
 {
-    let mut i: usize = 0;
-    while i < word.len() {
-        out[i] = word[i];
-        i += 1;
-    }
-    i
+    let n = word.len();
+    out[..n].copy_from_slice(word);
+    n
 }
 
 // At the front, a word and a line of numbers: `fan 2`.
@@ -83,13 +78,11 @@ pub fn put_paths(
     ensures { Put out.old at (specs.paths_text w places.now counts.now k) result out.new }
 {
     let mut p = at;
-    let mut i: usize = 0;
-    while i < k {
+    for i in 0..k {
         let hops = counts[i];
         let from = i * w;
         let end = from + hops as usize + 1;
         p = put_path(out, p, hops, &places[from..end]);
-        i += 1;
     }
     p
 }

@@ -17,52 +17,27 @@ fn any_overlong(k: usize, w: usize, counts: &[u64]) -> bool
     requires { k ≤ length counts.now }
     ensures { result ≡ any (specs.overlong w counts.now) 0 k }
 {
-    let mut i: usize = 0;
-    while i < k {
-        if w as u64 <= counts[i] {
-            return true;
-        }
-        i += 1;
-    }
-    false
+    counts[..k].iter().any(|hops| w as u64 <= *hops)
 }
 
 // Whether so many numbers are too few for k times w: no product is made that could be too large.
 fn few(have: usize, k: usize, w: usize) -> bool
     ensures { result ≡ ltb have (k * w) }
 {
-    if k == 0 {
-        return false;
-    }
-    have / k < w
+    k != 0 && have / k < w
 }
 
 // Whether there is room for the longest text of k paths of w places.
 fn short(bytes: usize, k: usize, w: usize) -> bool
     ensures { result ≡ ltb bytes (specs.fan_room k w) }
 {
-    if bytes < 25 {
-        return true;
-    }
-    if k == 0 {
-        return false;
-    }
-    (bytes - 25) / 21 / k <= w
+    bytes < 25 || k != 0 && (bytes - 25) / 21 / k <= w
 }
 
 fn wanting(k: usize, w: usize, places: &[u64], counts: &[u64], bytes: usize) -> bool
     ensures { result ≡ specs.wanting k w places.now counts.now bytes }
 {
-    if counts.len() < k {
-        return true;
-    }
-    if few(places.len(), k, w) {
-        return true;
-    }
-    if any_overlong(k, w, counts) {
-        return true;
-    }
-    short(bytes, k, w)
+    counts.len() < k || few(places.len(), k, w) || any_overlong(k, w, counts) || short(bytes, k, w)
 }
 
 // `fan k` and the lines of its paths, at the front.

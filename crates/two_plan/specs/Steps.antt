@@ -1,6 +1,6 @@
 -- Laying a fan (`lay_asked`, `lay_granted`), and the planner's steps: what was checked, room, the paths (`asked`, `plan_refused`, `plan_short`,
 -- `plan_laid`). Assumes nothing.
-use Rattle.std.specs.Prelude.{ℕ, ◌*◌, ◌≤◌, ◌≡◌, Bool, true, false, List, length, Result, Ok, Err, ⊤}
+use Rattle.std.specs.Prelude.{ℕ, ◌*◌, ◌≤◌, ◌≡◌, Bool, true, false, List, Result, Ok, Err, ⊤, length}
 use Rattle.std.proofs.Common.{sym, ◌∙◌, subst}
 use Rattle.std.proofs.Math.Option.{Option, none}
 use Rattle.answers.specs.Told.{against}
@@ -48,14 +48,14 @@ module _ (m s : ℕ) (targets : List ℕ) (r : Result ⊤ Refusal) (e : against 
   unfolding kind_of
   e₂ = e
 
-  pub fine : r ≡ (Ok tt) → Fine twos m s targets
+  pub fine : r ≡ Ok tt → Fine twos m s targets
   fine f = checked_fine twos m s targets e₂ f
 
-  pub order_in : r ≡ (Ok tt) → (1 ≤ m) × (m ≤ 5)
+  pub order_in : r ≡ Ok tt → (1 ≤ m) × (m ≤ 5)
   order_in f = known_bounds m (fine f).known
 
   -- what asking for room asks
-  pub short_ask : r ≡ (Ok tt) → ((kind_of TWO).known m ≡ true) × (length targets ≤ ((kind_of TWO).mesh m).links)
+  pub short_ask : r ≡ Ok tt → ((kind_of TWO).known m ≡ true) × (length targets ≤ ((kind_of TWO).mesh m).links)
   unfolding kind_of
   short_ask f = ((fine f).known, (fine f).sound.few)
 
@@ -66,7 +66,7 @@ module _ (m s : ℕ) (targets : List ℕ) (r : Result ⊤ Refusal) (e : against 
     pub plan_refused : {why : Refusal} → r ≡ Err why → Planned (request_against twos m s targets wanting) (two m) s targets places counts (Err why) places counts
     plan_refused f = refusal (two m) s targets places counts (sym (request_refused twos m s targets e₂ wanting f))
 
-    module _ {flag : Bool} (f : r ≡ (Ok tt)) (w : flag ≡ short ((kind_of TWO).mesh m) (length targets) (length places) (length counts)) where
+    module _ {flag : Bool} (f : r ≡ Ok tt) (w : flag ≡ short ((kind_of TWO).mesh m) (length targets) (length places) (length counts)) where
       w₂ : flag ≡ wanting
       unfolding kind_of
       w₂ = w

@@ -1,6 +1,5 @@
 -- `dimacs::exported` meets its contract: 1 and 52, then 46. Assumes nothing.
-use Rattle.std.proofs.Common.{arith, sym, ◌∙◌, rules}
-use borrow.Author.Tests.{not-true, not-false}
+use Rattle.std.proofs.Common.{arith, sym, ◌∙◌}
 use Rattle.mesh.specs.Laws.{planned-known}
 use Rattle.dimacs.specs.Needs.{export_unserved, export_large, export_small}
 use Rattle.dimacs.proofs.exported.Goals as goal

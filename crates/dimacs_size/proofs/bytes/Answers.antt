@@ -1,5 +1,5 @@
 -- `dimacs_size::bytes` meets its contract: the first line, and the lines of all relays. Assumes nothing.
-use Rattle.std.proofs.Common.{arith, rules}
+use Rattle.std.proofs.Common.{arith}
 use Rattle.dimacs_size.specs.Sizes.{rows_of, relays_small, product_small, width-short, edges_few, whole}
 use Rattle.dimacs_size.proofs.bytes.Goals as goal
 

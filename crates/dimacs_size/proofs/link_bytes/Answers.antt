@@ -1,5 +1,5 @@
 -- `dimacs_size::link_bytes` meets its contract, by whether the link leads higher. Assumes nothing.
-use Rattle.std.proofs.Common.{arith, rules}
+use Rattle.std.proofs.Common.{arith}
 use Rattle.dimacs_size.specs.Sizes.{end_small, line_long, line-none, width-short}
 use Rattle.dimacs_size.proofs.link_bytes.Goals as goal
 

@@ -1,6 +1,6 @@
-use Rattle.std.proofs.Common.{◌-◌, arith, rules}
-use Rattle.dimacs.specs.Pieces.{Summing, sum-start, sum_more}
-use Rattle.dimacs.specs.Needs.{link_of, linking}
+use Rattle.std.proofs.Common.{arith}
+use Rattle.dimacs.specs.Pieces.{sum-start, sum_more}
+use Rattle.dimacs.specs.Needs.{linking}
 use Rattle.dimacs_size.specs.Sizes.{row_small, row-all, link-few}
 use Rattle.dimacs_size.proofs.row_bytes.Goals as goal
 
@@ -17,4 +17,4 @@ pub loop-i-preserved : goal.loop-i-preserved
 loop-i-preserved c = sum_more _ c.loop-i.invariant c.loop-i-test.true c.link_bytes-sum.ensures
 
 pub returns : goal.returns
-returns c = row-all c.requires c.loop-i.invariant c.loop-i-test.false
+returns c = row-all c.requires c.loop-i.invariant (omega arith)

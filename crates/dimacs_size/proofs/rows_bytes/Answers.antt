@@ -1,7 +1,5 @@
-use Rattle.std.proofs.Common.{◌-◌, arith, rules}
-use Rattle.mesh.specs.Kinds.{mesh_of}
-use Rattle.dimacs.specs.Text.{row}
-use Rattle.dimacs.specs.Pieces.{Summing, sum-start, sum_more}
+use Rattle.std.proofs.Common.{arith}
+use Rattle.dimacs.specs.Pieces.{sum-start, sum_more}
 use Rattle.dimacs_size.specs.Sizes.{rowed, rows_small, rows_all, row-few}
 use Rattle.dimacs_size.proofs.rows_bytes.Goals as goal
 
@@ -18,4 +16,4 @@ pub loop-u-preserved : goal.loop-u-preserved
 loop-u-preserved c = sum_more _ c.loop-u.invariant c.loop-u-test.true c.row_bytes-sum.ensures
 
 pub returns : goal.returns
-returns c = rows_all c.requires c.loop-u.invariant c.loop-u-test.false
+returns c = rows_all c.requires c.loop-u.invariant (omega arith)

@@ -1,6 +1,6 @@
-use Rattle.std.proofs.Common.{arith, rules}
+use Rattle.std.proofs.Common.{arith}
 use native.Mathlib.Nat.{div-lt_self}
-use Rattle.dimacs_size.specs.Sizes.{Widening, wide_start, wide_few, wide_more, wide_all}
+use Rattle.dimacs_size.specs.Sizes.{wide_start, wide_few, wide_more, wide_all}
 use Rattle.dimacs_size.proofs.width.Goals as goal
 
 pub loop-rest-init : goal.loop-rest-init

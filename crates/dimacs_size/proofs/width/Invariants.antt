@@ -1,7 +1,5 @@
 -- `dimacs_size::width` meets its contract: each turn counts a digit (`Widening`). Assumes nothing.
-use Rattle.std.proofs.Common.{arith, rules}
-use native.Mathlib.Nat.{div-lt_self}
-use Rattle.dimacs_size.specs.Sizes.{Widening, wide_start, wide_few, wide_more, wide_all}
+use Rattle.dimacs_size.specs.Sizes.{Widening}
 use Rattle.dimacs_size.proofs.width.Given as goal
 
 abbrev pub invariant-loop-rest : goal.invariant-loop-rest

@@ -1,6 +1,5 @@
 -- `dimacs_write::put_edge` meets its contract: a byte, then two numbers and a line end. Assumes nothing.
-use Rattle.std.proofs.Common.{arith, rules}
-use Rattle.decimal.specs.Write.{put_long}
+use Rattle.std.proofs.Common.{arith}
 use Rattle.dimacs_write.specs.Writes.{edge_room, edge_put}
 use Rattle.dimacs_write.proofs.put_edge.Goals as goal
 

@@ -1,7 +1,5 @@
 -- `dimacs_write::put_graph` meets its contract: the first line, then all others. Assumes nothing.
-use Rattle.std.proofs.Common.{arith, rules}
-use Rattle.decimal.specs.Write.{put_long}
-use Rattle.dimacs_size.specs.Sizes.{rows_of, product_small}
+use Rattle.dimacs_size.specs.Sizes.{rows_of}
 use Rattle.dimacs_write.specs.Writes.{head-room, body-room, graph_put}
 use Rattle.dimacs_write.proofs.put_graph.Goals as goal
 

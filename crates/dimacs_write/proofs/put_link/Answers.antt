@@ -1,6 +1,6 @@
 -- `dimacs_write::put_link` meets its contract, by whether the link leads higher. Assumes nothing.
-use Rattle.std.proofs.Common.{arith, sym, rules}
-use Rattle.decimal.specs.Write.{put_as, put_long, put-none}
+use Rattle.std.proofs.Common.{arith, sym}
+use Rattle.decimal.specs.Write.{put_as, put-none}
 use Rattle.dimacs_write.specs.Writes.{link-text, link_blank, link-end, link-room}
 use Rattle.dimacs_write.proofs.put_link.Goals as goal
 

@@ -1,7 +1,6 @@
-use Rattle.std.proofs.Common.{◌-◌, rules}
-use Rattle.decimal.specs.Write.{put_long}
-use Rattle.dimacs.specs.Pieces.{Eaching, each_start, each-put}
-use Rattle.dimacs.specs.Needs.{link_of, linking}
+use Rattle.std.proofs.Common.{arith}
+use Rattle.dimacs.specs.Pieces.{each_start, each-put}
+use Rattle.dimacs.specs.Needs.{linking}
 use Rattle.dimacs_write.specs.Writes.{row_room, row_done}
 use Rattle.dimacs_write.proofs.put_row.Goals as goal
 
@@ -19,4 +18,4 @@ pub loop-i-preserved : goal.loop-i-preserved
 loop-i-preserved c = each-put _ _ _ _ c.loop-i.invariant c.loop-i-test.true c.put_link-p.ensures
 
 pub returns : goal.returns
-returns c = row_done c.requires.rowed c.loop-i.invariant c.loop-i-test.false
+returns c = row_done c.requires.rowed c.loop-i.invariant (omega arith)

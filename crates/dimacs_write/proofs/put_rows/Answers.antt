@@ -1,8 +1,5 @@
-use Rattle.std.proofs.Common.{◌-◌, rules}
-use Rattle.decimal.specs.Write.{put_long}
-use Rattle.mesh.specs.Kinds.{mesh_of}
-use Rattle.dimacs.specs.Text.{row}
-use Rattle.dimacs.specs.Pieces.{Eaching, each_start, each-put}
+use Rattle.std.proofs.Common.{arith}
+use Rattle.dimacs.specs.Pieces.{each_start, each-put}
 use Rattle.dimacs_size.specs.Sizes.{rowed}
 use Rattle.dimacs_write.specs.Writes.{rows-room, rows_done}
 use Rattle.dimacs_write.proofs.put_rows.Goals as goal
@@ -21,4 +18,4 @@ pub loop-u-preserved : goal.loop-u-preserved
 loop-u-preserved c = each-put _ _ _ _ c.loop-u.invariant c.loop-u-test.true c.put_row-p.ensures
 
 pub returns : goal.returns
-returns c = rows_done c.requires.rows c.loop-u.invariant c.loop-u-test.false
+returns c = rows_done c.requires.rows c.loop-u.invariant (omega arith)

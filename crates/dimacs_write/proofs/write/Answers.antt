@@ -1,6 +1,5 @@
 -- `dimacs_write::write` meets its contract: what stands against it, then room, then the text. Assumes nothing.
-use Rattle.std.proofs.Common.{arith, rules}
-use Rattle.decimal.specs.Write.{put_long}
+use Rattle.std.proofs.Common.{arith}
 use Rattle.dimacs_write.specs.Writes.{write_exported, write_refused, write_short, write_fine}
 use Rattle.dimacs_write.proofs.write.Goals as goal
 

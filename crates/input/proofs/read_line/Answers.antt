@@ -5,17 +5,17 @@ use Rattle.scan.specs.Scan.{any}
 use Rattle.std.proofs.KnownBytes.{Consumes-nil}
 use Rattle.scan.specs.Laws.{false-any}
 use Rattle.input.proofs.Filled.{filled_more, filled_kept}
-use Rattle.input.specs.Buffers.{end_within, no_end_within, no_end_kept}
+use Rattle.input.specs.Buffers.{end_is, no_end_kept}
 use Rattle.input.specs.Says.{is_end}
 use Rattle.input.proofs.read_line.Goals as goal
 
-pub returns-then-has_end-clause-came : goal.returns-then-has_end-clause-came
-returns-then-has_end-clause-came g c =
+pub returns-then-contains-clause-came : goal.returns-then-contains-clause-came
+returns-then-contains-clause-came g c =
     let came = c.in_ok-got.ensures.within in
-    record { within = came; enough = λ e. inl (end_within _ _ came c.has_end.ensures c.if-has_end.true) }
+    record { within = came; enough = λ e. inl (end_is _ _ came c.contains.ensures.value c.if-contains.true) }
 
-pub returns-then-has_end-clause-bytes : goal.returns-then-has_end-clause-bytes
-returns-then-has_end-clause-bytes g c =
+pub returns-then-contains-clause-bytes : goal.returns-then-contains-clause-bytes
+returns-then-contains-clause-bytes g c =
     filled_more _ _ _ _ _ c.loop-n.n _ c.in_ok-got.ensures.before c.loop-n.invariant.bytes c.in_ok-got.ensures.bytes
 
 pub loop-n-preserved : goal.loop-n-preserved
@@ -23,7 +23,7 @@ loop-n-preserved g c = record {
   within = c.in_ok-got.ensures.within;
   kept = omega arith;
   bytes = filled_more _ _ _ _ _ c.loop-n.n _ c.in_ok-got.ensures.before c.loop-n.invariant.bytes c.in_ok-got.ensures.bytes;
-  no_end = no_end_within _ _ c.in_ok-got.ensures.within c.has_end.ensures (cc);
+  no_end = end_is _ _ c.in_ok-got.ensures.within c.contains.ensures.value (cc);
 }
 
 pub loop-n-init : goal.loop-n-init

@@ -1,6 +1,4 @@
 -- `line_put::put_next` meets its contract: a space, then the digits. Assumes nothing.
-use Rattle.std.proofs.Common.{rules}
-use Rattle.decimal.specs.Write.{put_long}
 use Rattle.line_put.specs.Writes.{next-room, next-put}
 use Rattle.line_put.proofs.put_next.Goals as goal
 
@@ -11,5 +9,4 @@ pub put-requires : goal.put-requires
 put-requires c = (next-room c.args.out.now c.args.at c.args.n c.requires).1
 
 pub returns : goal.returns
-returns c =
-    next-put c.args.out.now c.args.at c.args.n c.put.ensures
+returns c = next-put c.args.out.now c.args.at c.args.n c.put.ensures

@@ -1,22 +1,15 @@
-use Rattle.std.proofs.Common.{arith, ◌-◌, rules}
-use Rattle.decimal.specs.Write.{put_long}
-use Rattle.line_put.specs.Writes.{Pathing, row_within, paths-start, path_room, path-more, paths-all}
+use Rattle.std.proofs.Common.{arith}
+use Rattle.line_put.specs.Writes.{row_within, paths-start, path_room, path-more}
 use Rattle.line_put.proofs.put_paths.Goals as goal
 
 pub loop-i-init : goal.loop-i-init
 loop-i-init c = paths-start _ _ _ _ _ _
-
-pub overflow_mul-from : goal.overflow_mul-from
-overflow_mul-from c = let h = row_within c.requires.0 c.loop-i-test.true in omega arith
 
 pub overflow_add-end : goal.overflow_add-end
 overflow_add-end c = let h = row_within c.requires.0 c.loop-i-test.true in omega arith
 
 pub overflow_add-end-in-loop-i : goal.overflow_add-end-in-loop-i
 overflow_add-end-in-loop-i c = let h = row_within c.requires.0 c.loop-i-test.true in omega arith
-
-pub offset_bounds-places-from : goal.offset_bounds-places-from
-offset_bounds-places-from c = let h = row_within c.requires.0 c.loop-i-test.true in omega arith
 
 pub slice_bounds-put_path-end : goal.slice_bounds-put_path-end
 slice_bounds-put_path-end c = let h = row_within c.requires.0 c.loop-i-test.true in omega arith
@@ -28,7 +21,3 @@ put_path-p-requires c =
 pub loop-i-preserved : goal.loop-i-preserved
 loop-i-preserved c =
     path-more c.args.w c.args.places.now c.args.counts.now c.args.out.now c.args.at c.args.k c.loop-i.invariant c.loop-i-test.true c.put_path-p.ensures
-
-pub returns : goal.returns
-returns c =
-    paths-all c.args.w c.args.places.now c.args.counts.now c.args.out.now c.args.at c.args.k c.loop-i.invariant c.loop-i-test.false

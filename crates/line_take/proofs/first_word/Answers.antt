@@ -1,13 +1,17 @@
 -- `line_take::first_word` meets its contract, by the word that the text begins with. Assumes nothing.
-use Rattle.std.proofs.Common.{sym, ◌∙◌, rules}
-use Rattle.line_take.specs.Reads.{word-cube, word_two, word-other}
+use Rattle.line.specs.Text.{cube_word, two_word}
+use Rattle.line_take.specs.Reads.{begins_is, word-cube, word_two, word-other}
 use Rattle.line_take.proofs.first_word.Goals as goal
 
-pub returns-then-begins : goal.returns-then-begins
-returns-then-begins c = word-cube _ (sym c.begins.ensures ∙ c.if-begins.true)
+pub returns-then-starts_with : goal.returns-then-starts_with
+returns-then-starts_with c = word-cube _ (begins_is cube_word c.args.text.now c.starts_with.ensures.value c.if-starts_with.true)
 
-pub returns-then-begins-2 : goal.returns-then-begins-2
-returns-then-begins-2 c = word_two _ (sym c.begins.ensures ∙ c.if-begins.false) (sym c.begins-2.ensures ∙ c.if-begins-2.true)
+pub returns-then-starts_with-2 : goal.returns-then-starts_with-2
+returns-then-starts_with-2 c =
+    word_two _ (begins_is cube_word c.args.text.now c.starts_with.ensures.value c.if-starts_with.false)
+    (begins_is two_word c.args.text.now c.starts_with-2.ensures.value c.if-starts_with-2.true)
 
 pub returns : goal.returns
-returns c = word-other _ (sym c.begins.ensures ∙ c.if-begins.false) (sym c.begins-2.ensures ∙ c.if-begins-2.false)
+returns c =
+    word-other _ (begins_is cube_word c.args.text.now c.starts_with.ensures.value c.if-starts_with.false)
+    (begins_is two_word c.args.text.now c.starts_with-2.ensures.value c.if-starts_with-2.false)

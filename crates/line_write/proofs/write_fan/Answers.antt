@@ -1,6 +1,4 @@
 -- `line_write::write_fan` meets its contract, by whether something wants. Assumes nothing.
-use Rattle.std.proofs.Common.{rules}
-use Rattle.decimal.specs.Write.{put_long}
 use Rattle.line.specs.Written.{fan_text}
 use Rattle.line_write.specs.Rooms.{roomy, written-not, written}
 use Rattle.line_write.proofs.write_fan.Goals as goal

@@ -1,6 +1,5 @@
 -- `line_write::write_refusal` meets its contract: where there is room, the word and the two numbers are written. Assumes nothing.
-use Rattle.std.proofs.Common.{refl, sym, lt-ltb, le-ltb, rules}
-use Rattle.decimal.specs.Write.{put_long}
+use Rattle.std.proofs.Common.{refl, sym, lt-ltb, le-ltb}
 use Rattle.line.specs.Written.{refused_text}
 use Rattle.line_write.specs.Rooms.{refusal-room, refusal-put, written-not, written}
 use Rattle.line_write.proofs.write_refusal.Goals as goal

@@ -1,21 +1,19 @@
-use Rattle.std.proofs.Common.{sym, ap, ◌∙◌}
-use Rattle.decimal.specs.Read.{longer_of, reading-start, reading-on, reading-over, reading-end, on_byte, on-end}
+use Rattle.std.proofs.Common.{◌∙◌, arith, get_or}
+use Rattle.decimal.specs.Read.{tested, reading-on, reading-over, reading-end, reading_all, on_byte}
 use Rattle.decimal.proofs.reading.more.Goals as goal
 
-pub loop-i-init : goal.loop-i-init
-loop-i-init c = reading-start _ _ _ c.requires
+pub returns-then-not-is_ascii_digit : goal.returns-then-not-is_ascii_digit
+returns-then-not-is_ascii_digit c =
+    reading-end _ _ _ c.loop-i.invariant (on_byte _ _ c.loop-i-test.true ∙ tested (get_or c.args.text.now c.loop-i.i 0) c.is_ascii_digit.ensures.value c.if-not-is_ascii_digit.true)
 
-pub returns-then-not-is_digit : goal.returns-then-not-is_digit
-returns-then-not-is_digit c = reading-end _ _ _ c.loop-i.invariant (on_byte _ _ c.loop-i-test.true ∙ sym c.is_digit.ensures ∙ c.if-not-is_digit.true)
-
-pub with_digit-requires : goal.with_digit-requires
-with_digit-requires c = sym c.is_digit.ensures ∙ c.if-not-is_digit.false
-
-pub returns-in_default : goal.returns-in_default
-returns-in_default c = reading-over _ _ _ c.loop-i.invariant c.loop-i-test.true (sym c.is_digit.ensures ∙ c.if-not-is_digit.false) (ap longer_of (sym c.in_default.is) ∙ c.with_digit.ensures)
+pub returns-in_err-v : goal.returns-in_err-v
+returns-in_err-v c =
+    rw c.from_residual.ensures
+    (reading-over _ _ _ c.loop-i.invariant c.loop-i-test.true (tested (get_or c.args.text.now c.loop-i.i 0) c.is_ascii_digit.ensures.value c.if-not-is_ascii_digit.false) (omega (arith, c.in_err-v.ensures)))
 
 pub loop-i-preserved : goal.loop-i-preserved
-loop-i-preserved c = reading-on _ _ _ c.loop-i.invariant c.loop-i-test.true (sym c.is_digit.ensures ∙ c.if-not-is_digit.false) (ap longer_of (sym c.in-To.is) ∙ c.with_digit.ensures)
+loop-i-preserved c =
+    reading-on _ _ _ c.loop-i.invariant c.loop-i-test.true (tested (get_or c.args.text.now c.loop-i.i 0) c.is_ascii_digit.ensures.value c.if-not-is_ascii_digit.false) c.in_ok-v.ensures.0 c.in_ok-v.ensures.1
 
 pub returns : goal.returns
-returns c = reading-end _ _ _ c.loop-i.invariant (on-end _ _ c.loop-i-test.false)
+returns c = reading_all _ _ _ c.loop-i.invariant (omega arith)

@@ -1,6 +1,6 @@
 -- `dimacs_read::links::wrong` meets its contract: line by line (`Judging`). Assumes nothing.
-use Rattle.std.proofs.Common.{arith, ◌-◌, ◌∙◌, length, rules}
-use Rattle.dimacs_read.specs.Turns.{Judging, as_right, as_fails, as_ends, judge_start, judge_more, judge_found, judge_over, judge_all}
+use Rattle.std.proofs.Common.{◌-◌, length}
+use Rattle.dimacs_read.specs.Turns.{Judging}
 use Rattle.dimacs_read.proofs.links.wrong.Given as goal
 
 abbrev pub invariant-loop-at : goal.invariant-loop-at
