@@ -1,22 +1,19 @@
 -- Why the planner's call keeps its promise: the place of a refusal is small (`request_place`); a fan planned in room enough is written whole (`lay_sheeted`, `lay_answered`);
 -- what stands against a list of targets (`list_refused`, `list_lone`, `list_short`, `list_done`); and of more than 33 targets the first 33 tell all (`cut-planned`).
 -- Assumes nothing.
-use Rattle.std.specs.Prelude.{ℕ, ◌+◌, ◌-◌, ◌*◌, ◌/◌, ◌%◌, ◌≤◌, ◌<◌, ◌≡◌, refl, Bool, true, false, not, ◌⊎◌, ◌≢◌, List, [], ◌++◌, eqb, leb, ltb, length, take, drop}
+use Rattle.std.specs.Prelude.{ℕ, ◌+◌, ◌-◌, ◌*◌, ◌/◌, ◌%◌, ◌≤◌, ◌<◌, ◌≡◌, refl, Bool, true, false, not, ◌⊎◌, ◌≢◌, List, [], ◌++◌, eqb, leb, ltb, length, take, drop, Result, Ok, Err, ⊤}
 use Rattle.std.proofs.Common.{sym, ap, ap₂, ◌∙◌, subst, inl, inr, mul-le-mul, mul-le-mul_right, le_trans, arith, take_at, ltb-true, ltb-false, lt-ltb, le-ltb, eq-eqb, ne_eqb}
 use Rattle.std.proofs.Math.Option.{Option, none, some}
 use Rattle.std.proofs.lemmas.List.Edits.{sets}
 use Rattle.std.proofs.lemmas.Bool.{not-false, eqb-false}
 use Rattle.scan.specs.Scan.{Spot, nowhere, at, pick}
 use Rattle.scan.specs.Laws.{seek-first, true-or}
-use Rattle.answers.specs.Order.{first, refuse, refuse-at, first_at, is_out, is_same, is_again}
+use Rattle.answers.specs.Order.{refuse, refuse-at, first_at, is_out, is_same, is_again}
 use Rattle.answers.specs.Told.{number, place, against}
 use Rattle.answers.specs.Laws.{number-some}
 use Rattle.answers.specs.declared.Refusal.{Refusal}
 use Rattle.answers.specs.declared.Refusal.TheVariants.{Unreadable, UnknownSize, NotServed, SourceOut, NoTarget, TooMany, TargetOut, TargetIsSource, TargetAgain, NoRoom}
-use Rattle.answers.specs.declared.Checked.{Checked}
-use Rattle.answers.specs.declared.Checked.TheVariants as checked
 use Rattle.paths.specs.Mesh.{width}
-use Rattle.paths.specs.Fan.{Fan}
 use Rattle.mesh.specs.Kinds.{kind_of, mesh_of, known, planned}
 use Rattle.mesh.specs.Limits.{most_links, most_places, known-links, known-width, planned-links, planned-places}
 use Rattle.mesh.specs.Laws.{known-planned}
@@ -38,7 +35,6 @@ use Rattle.sheet_write.specs.Says.{bytes}
 use Rattle.sheet_write.specs.Says as write
 use Rattle.sheet_write.specs.Needs.{Sheeted}
 use Rattle.sheet_write.specs.Writing.{judged_sheeted}
-use Rattle.sheet.specs.declared.Written.{Written}
 use Rattle.region.specs.Says.{code_of, coded, LONE, most, targets_in, sheet_code, list_code, plan_code, Answered, Planned}
 use Rattle.region.specs.Needs.{Sound, Layable, few}
 
@@ -69,7 +65,7 @@ module _ (why : Refusal) where
       (through_at (first_at targets (is_same s targets)) TargetIsSource _ (below (is_same s targets))
       (through_at (first_at targets (is_again targets)) TargetAgain _ (below (is_again targets)) (λ e. not-both refl (sym e)))))))))
 
-pub request_place : (kind size s : ℕ) (targets : List ℕ) {r : Checked} {why : Refusal} → r ≡ checked.Refused why → against r ≡ planned_against (kind_of kind) size s targets false → place why < 256
+pub request_place : (kind size s : ℕ) (targets : List ℕ) {r : Result ⊤ Refusal} {why : Refusal} → r ≡ Err why → against r ≡ planned_against (kind_of kind) size s targets false → place why < 256
 request_place kind size s targets {r} {why} f e = request_small why kind size s targets (sym e ∙ ap against f)
 
 -- ---- the most bytes of a sheet
@@ -118,7 +114,7 @@ module _ (kind size s : ℕ) (targets : List ℕ) where
   lay_able p = record { clear = p.sound.clear; room = wide p }
 
   module _ {places counts places₁ counts₁ : List ℕ} {out : ℕ} (p : Layable kind size s targets (length places) (length counts) out)
-      (f : requests.Planned none (mesh_of kind size) s targets places counts checked.Fine places₁ counts₁) where
+      (f : requests.Planned none (mesh_of kind size) s targets places counts (Ok tt) places₁ counts₁) where
     pub lay_judged : Judged (kind_of kind) size s targets places₁ counts₁
     lay_judged =
         let room = room_enough (mesh_of kind size) (length targets) (length places) (length counts) (wide p) in
@@ -127,8 +123,8 @@ module _ (kind size s : ℕ) (targets : List ℕ) where
     pub lay_sheeted : Sheeted kind size (length targets) (length places₁) counts₁
     lay_sheeted = judged_sheeted kind size s targets places₁ counts₁ (h p.sound) lay_judged
 
-  pub lay_answered : {places counts places₁ counts₁ out out₁ : List ℕ} {w : Written} → Layable kind size s targets (length places) (length counts) (length out)
-      → requests.Planned none (mesh_of kind size) s targets places counts checked.Fine places₁ counts₁
+  pub lay_answered : {places counts places₁ counts₁ out out₁ : List ℕ} {w : Result ℕ Flaw} → Layable kind size s targets (length places) (length counts) (length out)
+      → requests.Planned none (mesh_of kind size) s targets places counts (Ok tt) places₁ counts₁
       → write.Put kind size s (length targets) places₁ counts₁ out w out₁ → Answered kind size s targets out out₁
   lay_answered {places} {counts} {places₁} {counts₁} {out} {out₁} p f q =
       let sheet = bytes kind size s (length targets) places₁ counts₁ in
@@ -157,11 +153,11 @@ told_as : (kind size s : ℕ) (targets out : List ℕ) {o : Option Refusal} → 
     → coded o (sheet_code kind size (length targets) out) ≡ list_code kind size s targets out
 told_as kind size s targets out e = ap (λ (o : Option Refusal). coded o (sheet_code kind size (length targets) out)) e
 
-module _ (kind size s : ℕ) (targets out : List ℕ) {c : Checked} (e : against c ≡ planned_against (kind_of kind) size s targets false) where
-  pub list_refused : {why : Refusal} {r : ℕ} → c ≡ checked.Refused why → r ≡ code_of (some why) → Planned (list_code kind size s targets out) kind size s targets out r out
+module _ (kind size s : ℕ) (targets out : List ℕ) {c : Result ⊤ Refusal} (e : against c ≡ planned_against (kind_of kind) size s targets false) where
+  pub list_refused : {why : Refusal} {r : ℕ} → c ≡ Err why → r ≡ code_of (some why) → Planned (list_code kind size s targets out) kind size s targets out r out
   list_refused {why} f p = let o = told_as kind size s targets out (sym (ap against f) ∙ e) in refusal kind size s targets out (λ z. code_some why (o ∙ z)) (p ∙ o)
 
-  module _ (f : c ≡ checked.Fine) where
+  module _ (f : c ≡ (Ok tt)) where
     pub list_known : (known kind size ≡ true) × (length targets ≤ (mesh_of kind size).links)
     list_known = let fine = (plan_fine (kind_of kind) size s targets (sym e ∙ ap against f)).0 in (fine.known, fine.sound.few)
 
@@ -286,9 +282,3 @@ unreadable kind size s l out ne p =
     refusal kind size s (targets_in l) out (λ z. code_some Unreadable (o ∙ z)) (p ∙ o)
 
 -- ---- how many targets are looked at
-
-pub few-all : (n : ℕ) → n < 33 → n ≡ few n
-few-all n h = ap (λ (b : Bool). pick b n 33) (sym (lt-ltb n 33 h))
-
-pub few-cut : (n : ℕ) → 33 ≤ n → 33 ≡ few n
-few-cut n h = ap (λ (b : Bool). pick b n 33) (sym (le-ltb n 33 h))

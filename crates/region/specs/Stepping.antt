@@ -1,6 +1,6 @@
 -- Why the next hop's call keeps its promise: a relay put at the front of a slice (`put-short`, `put_done`), and what the next hop tells
 -- (`next_place`, `next_refused`, `next-put`). Assumes nothing.
-use Rattle.std.specs.Prelude.{ℕ, ◌≤◌, ◌<◌, ◌≡◌, refl, Bool, true, false, not, List, ◌++◌, leb, ltb, length, drop}
+use Rattle.std.specs.Prelude.{ℕ, ◌≤◌, ◌<◌, ◌≡◌, refl, Bool, true, false, not, List, ◌++◌, leb, ltb, length, drop, Result, Ok, Err}
 use Rattle.std.proofs.Common.{sym, ap, ◌∙◌, arith, lt-ltb, le-ltb}
 use Rattle.std.proofs.Math.Option.{Option, none, some}
 use Rattle.std.proofs.lemmas.List.Edits.{sets}
@@ -12,8 +12,6 @@ use Rattle.answers.specs.Laws.{answer_unique}
 use Rattle.answers.specs.Pairs.{room-last}
 use Rattle.answers.specs.declared.Refusal.{Refusal}
 use Rattle.answers.specs.declared.Refusal.TheVariants.{UnknownSize, SourceOut, TargetOut, NoRoom}
-use Rattle.answers.specs.declared.Answer.{Answer}
-use Rattle.answers.specs.declared.Answer.TheVariants as answer
 use Rattle.mesh.specs.Kinds.{Kind}
 use Rattle.mesh.specs.Says.{size_faults_in, pair_against, next_told}
 use Rattle.sheet.specs.Pieces.{at_front}
@@ -21,13 +19,13 @@ use Rattle.region.specs.Says.{code_of, put_against, front, Put, next_against, St
 
 -- ---- what stands against an answer
 
-abbrev refused_by : Answer → Option Refusal
-refused_by (answer.Value v) = none
-refused_by (answer.Refused why) = some why
+abbrev refused_by : Result ℕ Refusal → Option Refusal
+refused_by (Ok v) = none
+refused_by (Err why) = some why
 
-abbrev answer_of : Option Refusal → ℕ → Answer
-answer_of none v = answer.Value v
-answer_of (some why) v = answer.Refused why
+abbrev answer_of : Option Refusal → ℕ → Result ℕ Refusal
+answer_of none v = Ok v
+answer_of (some why) v = Err why
 
 answer-tells : (o : Option Refusal) (v : ℕ) → answer_told (answer_of o v) ≡ tell o 0 v
 answer-tells none v = refl
@@ -37,7 +35,7 @@ answer_refused : (o : Option Refusal) (v : ℕ) → refused_by (answer_of o v) �
 answer_refused none v = refl
 answer_refused (some why) v = refl
 
-pub answer-against : (o : Option Refusal) (v : ℕ) {a b : Answer} → a ≡ b → answer_told a ≡ tell o 0 v → refused_by b ≡ o
+pub answer-against : (o : Option Refusal) (v : ℕ) {a b : Result ℕ Refusal} → a ≡ b → answer_told a ≡ tell o 0 v → refused_by b ≡ o
 answer-against o v {a} {b} f e = ap refused_by (sym f ∙ answer_unique a (answer_of o v) (e ∙ sym (answer-tells o v))) ∙ answer_refused o v
 
 -- ---- a relay at the front
@@ -70,10 +68,10 @@ pair_place u relays s t v = go u (leb relays s) (leb relays t)
     go false false true = refl
     go false false false = refl
 
-module _ (K : Kind) (n s t : ℕ) {a b : Answer} (f : a ≡ b) (e : answer_told a ≡ next_told K n s t) where
-  pub next_place : {why : Refusal} → b ≡ answer.Refused why → place why < 256
+module _ (K : Kind) (n s t : ℕ) {a b : Result ℕ Refusal} (f : a ≡ b) (e : answer_told a ≡ next_told K n s t) where
+  pub next_place : {why : Refusal} → b ≡ Err why → place why < 256
   next_place {why} g =
-      let zero : place why ≡ 0 = ap (λ (x : Answer). place_of (answer_told x)) (sym (f ∙ g)) ∙ ap place_of e ∙ pair_place (not (K.known n)) (K.mesh n).relays s t (K.next n s t) in
+      let zero : place why ≡ 0 = ap (λ (x : Result ℕ Refusal). place_of (answer_told x)) (sym (f ∙ g)) ∙ ap place_of e ∙ pair_place (not (K.known n)) (K.mesh n).relays s t (K.next n s t) in
       omega arith
 
 module _ (K : Kind) (n s t : ℕ) (out : List ℕ) where
@@ -84,11 +82,11 @@ module _ (K : Kind) (n s t : ℕ) (out : List ℕ) where
   stepped : {o : Option Refusal} {r : ℕ} {out₁ : List ℕ} → o ≡ next_against K n s t out → r ≡ code_of o → out₁ ≡ leaves o out (front (K.next n s t) out) → Stepped K n s t out r out₁
   stepped e p q = record { told = p ∙ ap code_of e; held = q ∙ ap (λ (o : Option Refusal). leaves o out (front (K.next n s t) out)) e }
 
-  pub next_refused : {a : Answer} {why : Refusal} {r : ℕ} → a ≡ answer.Refused why → answer_told a ≡ next_told K n s t → r ≡ code_of (some why) → Stepped K n s t out r out
+  pub next_refused : {a : Result ℕ Refusal} {why : Refusal} {r : ℕ} → a ≡ Err why → answer_told a ≡ next_told K n s t → r ≡ code_of (some why) → Stepped K n s t out r out
   next_refused f e p = stepped (next-all (answer-against (pair_against K n s t false) (K.next n s t) f e)) p refl
 
-  pub next-put : {a : Answer} {relay r : ℕ} {out₁ : List ℕ} → a ≡ answer.Value relay → answer_told a ≡ next_told K n s t → Put relay out r out₁ → Stepped K n s t out r out₁
+  pub next-put : {a : Result ℕ Refusal} {relay r : ℕ} {out₁ : List ℕ} → a ≡ Ok relay → answer_told a ≡ next_told K n s t → Put relay out r out₁ → Stepped K n s t out r out₁
   next-put {a} {relay} {r} {out₁} f e p =
       let o : none ≡ pair_against K n s t false = answer-against (pair_against K n s t false) (K.next n s t) f e in
-      let hop : relay ≡ K.next n s t = ap (λ (x : Answer). value_of (answer_told x)) (sym f) ∙ ap value_of e ∙ ap (λ (x : Option Refusal). value_of (tell x 0 (K.next n s t))) (sym o) in
+      let hop : relay ≡ K.next n s t = ap (λ (x : Result ℕ Refusal). value_of (answer_told x)) (sym f) ∙ ap value_of e ∙ ap (λ (x : Option Refusal). value_of (tell x 0 (K.next n s t))) (sym o) in
       stepped (next-all o) p.told (p.held ∙ ap (λ (x : ℕ). leaves (put_against out) out (front x out)) hop)

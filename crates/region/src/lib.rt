@@ -9,7 +9,7 @@ ghost use Rattle.answers.specs.Told.{place};
 ghost use Rattle.region.specs.Says.{code_of, Put, Stepped, Planned, plan_code, targets_in};
 ghost use Rattle.mesh.specs.Kinds.{kind_of};
 
-use answers::{Answer, Refusal};
+use answers::{Reason, Refusal};
 use mesh::Mesh;
 
 // A refusal as one number: 5 at place 3 is 1283.
@@ -36,10 +36,9 @@ fn put_relay(relay: u64, out: &mut [u8]) -> u64
 pub fn next_hop(mesh: Mesh, source: u64, target: u64, out: &mut [u8]) -> u64
     ensures { Stepped (kind_of mesh.kind) mesh.size source target out.old result out.new }
 {
-    let hop = mesh::next_hop(mesh, source, target);
-    match hop {
-        Answer::Value(relay) => put_relay(relay, out),
-        Answer::Refused(why) => code(why),
+    match mesh::next_hop(mesh, source, target) {
+        Ok(relay) => put_relay(relay, out),
+        Err(why) => code(why),
     }
 }
 

@@ -5,9 +5,9 @@ ghost use Rattle.region.specs.Says.{most, Answered, Planned, list_code, plan_cod
 ghost use Rattle.region.specs.Needs.{Layable, Sound, Whole, few, Lent};
 
 use crate::code;
-use answers::{Checked, Refusal};
+use answers::{Reason, Refusal};
 use mesh::Mesh;
-use sheet::Flaw;
+use sheet::{Flaw, Head};
 
 // The bytes that a sheet of k paths takes at most: of two paths in the cube of 2 dimensions 68.
 fn most_bytes(mesh: Mesh, k: usize) -> usize
@@ -31,7 +31,12 @@ fn lay(
     ensures { Answered mesh.kind mesh.size source targets.now out.old out.new }
 {
     planner::lay(mesh, source, targets, places, counts);
-    sheet_write::put_sheet(mesh, source, targets.len(), places, counts, out);
+    let head = Head {
+        mesh,
+        source,
+        paths: targets.len(),
+    };
+    let _written = sheet_write::put_sheet(head, places, counts, out);
 }
 
 // The same in room of its own, which is cleared first: where the paths take few places it is small, so that clearing it takes little beside planning them. All that order 3
@@ -60,8 +65,7 @@ fn lay_alone(mesh: Mesh, source: u64, targets: &[u64], out: &mut [u8])
 fn plan_list(mesh: Mesh, source: u64, targets: &[u64], out: &mut [u8]) -> u64
     ensures { Planned (list_code mesh.kind mesh.size source targets.now out.old) mesh.kind mesh.size source targets.now out.old result out.new }
 {
-    let checked = mesh::plan_request(mesh, source, targets);
-    if let Checked::Refused(why) = checked {
+    if let Err(why) = mesh::plan_request(mesh, source, targets) {
         return code(why);
     }
     if sheet::lone(mesh.kind, targets.len()) {
@@ -78,10 +82,7 @@ fn plan_list(mesh: Mesh, source: u64, targets: &[u64], out: &mut [u8]) -> u64
 fn looked_at(n: usize) -> usize
     ensures { result ≡ few n }
 {
-    if n < 33 {
-        return n;
-    }
-    33
+    n.min(33)
 }
 
 // Takes the targets out of their bytes into the list, and plans.

@@ -1,8 +1,6 @@
 -- `region::code` meets its contract: number times 256 and place. Assumes nothing.
-use Rattle.std.proofs.Common.{arith, rules}
+use Rattle.std.proofs.Common.{arith}
 use Rattle.answers.specs.Laws.{number-few}
-use Rattle.answers.proofs.Refusal.number.Reads as number-reads
-use Rattle.answers.proofs.Refusal.place.Reads as place-reads
 use Rattle.region.proofs.code.Goals as goal
 
 pub overflow_mul-result : goal.overflow_mul-result

@@ -1,8 +1,5 @@
 -- `region::plan` meets its contract: 10, or what the bytes give. Assumes nothing.
-use Rattle.std.proofs.Common.{rules}
 use Rattle.region.specs.Planning.{unreadable}
-use Rattle.region.proofs.code.Reads as code_Reads
-use Rattle.region.proofs.sheets.plan_bytes.Reads as plan-bytes-reads
 use Rattle.region.proofs.plan.Goals as goal
 
 pub returns-then-targets-ne0 : goal.returns-then-targets-ne0

@@ -1,7 +1,5 @@
 -- `region::put_relay` meets its contract: 8, or the relay at the front. Assumes nothing.
-use Rattle.std.proofs.Common.{rules}
 use Rattle.region.specs.Stepping.{put-short, put_done}
-use Rattle.region.proofs.code.Reads as code_Reads
 use Rattle.region.proofs.put_relay.Goals as goal
 
 pub returns-then-out-lt8 : goal.returns-then-out-lt8

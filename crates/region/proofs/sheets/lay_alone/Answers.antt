@@ -1,5 +1,5 @@
 -- `region::sheets::lay_alone` meets its contract: each room is large enough where it is chosen. Assumes nothing.
-use Rattle.std.proofs.Common.{ℕ, List, ◌*◌, ◌≤◌, ◌≡◌, sym, subst, arith, rules, length}
+use Rattle.std.proofs.Common.{ℕ, List, ◌*◌, ◌≤◌, ◌≡◌, sym, subst, arith, length}
 use Rattle.paths.specs.Mesh.{width}
 use Rattle.mesh.specs.Kinds.{mesh_of}
 use Rattle.region.specs.Planning.{sound_known, sound_placed, alone}

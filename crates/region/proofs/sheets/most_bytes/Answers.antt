@@ -1,7 +1,6 @@
 -- `region::sheets::most_bytes` meets its contract: the longest path is one less than its places. Assumes nothing.
-use Rattle.std.proofs.Common.{arith, rules}
+use Rattle.std.proofs.Common.{arith}
 use Rattle.region.specs.Planning.{most-few, most_is}
-use Rattle.mesh.proofs.places_in.Reads as places-in-reads
 use Rattle.region.proofs.sheets.most_bytes.Goals as goal
 
 pub overflow_mul-result : goal.overflow_mul-result

@@ -1,9 +1,6 @@
 -- `region::sheets::plan_in` meets its contract: the first 33 targets tell all. Assumes nothing.
-use Rattle.std.proofs.Common.{arith, length-take, rules}
+use Rattle.std.proofs.Common.{arith, length-take}
 use Rattle.region.specs.Planning.{few-most, cut-planned}
-use Rattle.region.proofs.sheets.looked_at.Reads as looked-at-reads
-use Rattle.region.proofs.sheets.plan_list.Reads as plan-list-reads
-use Rattle.sheet_take.proofs.take_relays.Reads as take-relays-reads
 use Rattle.region.proofs.sheets.plan_in.Goals as goal
 
 pub take_relays-requires : goal.take_relays-requires
