@@ -11,47 +11,35 @@ ghost use Rattle.around_search.specs.Avoid.{avoiding};
 ghost use Rattle.around.specs.Says.{Rounded, ends_against, round_against, round_short};
 ghost use Rattle.around.specs.Needs.{Sound, Lent};
 
-use answers::{Answer, Checked, Refusal};
+use answers::Refusal;
 use mesh::Mesh;
+use requests::Facts;
 
 // What stands against a distance: 1, 52, 9, 2, 5. The distance itself is not looked up.
-fn far(mesh: Mesh, source: u64, target: u64) -> Checked
+fn far(mesh: Mesh, source: u64, target: u64) -> Result<(), Refusal>
     ensures { against result ≡ first (distance_faults_in (kind_of mesh.kind) mesh.size source target) }
 {
     if !mesh.planned() {
-        return Checked::Refused(mesh::unplanned(mesh));
+        return Err(mesh::unplanned(mesh));
     }
-    if mesh.kind == Mesh::CUBE {
-        return Checked::Refused(Refusal::NoDistance);
+    if mesh.kind == Mesh::CUBE || 3 < mesh.size {
+        return Err(Refusal::NoDistance);
     }
-    if 3 < mesh.size {
-        return Checked::Refused(Refusal::NoDistance);
-    }
-    let relays = mesh::relays_in(mesh);
-    if relays <= source {
-        return Checked::Refused(Refusal::SourceOut);
-    }
-    if relays <= target {
-        return Checked::Refused(Refusal::TargetOut(0));
-    }
-    Checked::Fine
+    requests::pair(mesh.relays_in(), source, target)
 }
 
 // What stands against a way round whatever is lent: what stands against a distance, then 43, 44.
-fn checked(mesh: Mesh, source: u64, target: u64, stopped: &[u64]) -> Checked
+fn checked(mesh: Mesh, source: u64, target: u64, stopped: &[u64]) -> Result<(), Refusal>
     ensures { against result ≡ first (ends_against (kind_of mesh.kind) mesh.size source target stopped.now) }
 {
-    let apart = far(mesh, source, target);
-    if let Checked::Refused(why) = apart {
-        return Checked::Refused(why);
+    far(mesh, source, target)?;
+    if stopped.contains(&source) {
+        return Err(Refusal::SourceStopped);
     }
-    if scan::among(stopped, 0, stopped.len(), source) {
-        return Checked::Refused(Refusal::SourceStopped);
+    if stopped.contains(&target) {
+        return Err(Refusal::TargetStopped);
     }
-    if scan::among(stopped, 0, stopped.len(), target) {
-        return Checked::Refused(Refusal::TargetStopped);
-    }
-    Checked::Fine
+    Ok(())
 }
 
 // Searches and writes, where nothing stands against it.
@@ -62,18 +50,17 @@ fn sought(
     stopped: &[u64],
     room: &mut [u64],
     out: &mut [u64],
-) -> Answer
+) -> Result<u64, Refusal>
     requires { Sound mesh.kind mesh.size source target stopped.now × Lent mesh.kind mesh.size (length room.old) (length out.old) }
     ensures { Rounded none (avoiding (mesh_of mesh.kind mesh.size) stopped.now) source target room.old out.old result room.new out.new }
 {
-    let links = mesh::links_in(mesh);
-    around_search::start(mesh::relays_in(mesh) as usize, target, stopped, room);
-    let label = around_search::search(mesh, links, source, room);
-    if label == 0 {
-        return Answer::Refused(Refusal::NoPath);
-    }
-    around_search::trace(mesh, links, source, (label - 1) as usize, room, out);
-    Answer::Value(label - 1)
+    let links = mesh.links_in();
+    around_search::start(mesh.relays_in() as usize, target, stopped, room);
+    let Some(hops) = around_search::search(mesh, links, source, room) else {
+        return Err(Refusal::NoPath);
+    };
+    around_search::trace(mesh, links, source, hops as usize, room, out);
+    Ok(hops)
 }
 
 // Writes a shortest path from the source to the target that avoids the relays that have stopped, from place 0 of `out`, and answers its hops: in the mesh of kind 2 and size 1 from 0
@@ -86,19 +73,13 @@ pub fn way_round(
     stopped: &[u64],
     room: &mut [u64],
     out: &mut [u64],
-) -> Answer
+) -> Result<u64, Refusal>
     ensures { Rounded (round_against (kind_of mesh.kind) mesh.size source target stopped.now (round_short (mesh_of mesh.kind mesh.size) (length room.old) (length out.old))) (avoiding (mesh_of mesh.kind mesh.size) stopped.now) source target room.old out.old result room.new out.new }
 {
-    let ends = checked(mesh, source, target, stopped);
-    if let Checked::Refused(why) = ends {
-        return Answer::Refused(why);
-    }
-    let relays = mesh::relays_in(mesh) as usize;
-    if room.len() < relays {
-        return Answer::Refused(Refusal::NoRoom);
-    }
-    if out.len() < relays {
-        return Answer::Refused(Refusal::NoRoom);
+    checked(mesh, source, target, stopped)?;
+    let relays = mesh.relays_in() as usize;
+    if room.len() < relays || out.len() < relays {
+        return Err(Refusal::NoRoom);
     }
     sought(mesh, source, target, stopped, room, out)
 }

@@ -1,6 +1,6 @@
 -- A mesh with some relays stopped (`avoiding`): its links are those between relays that run. Definitions, and what a link of it says. Assumes nothing.
 use Rattle.std.specs.Prelude.{ℕ, ◌≡◌, refl, Bool, true, false, not, ◌&&◌, List}
-use Rattle.std.proofs.Common.{sym, ap, ap₂, ◌∙◌}
+use Rattle.std.proofs.Common.{ap₂}
 use Rattle.scan.specs.Scan.{has}
 use Rattle.scan.specs.Laws.{true-false, both_true}
 use Rattle.paths.specs.Mesh.{Mesh}

@@ -3,11 +3,11 @@
 -- the links of those before `head` have been followed, as have `done` of the one at `head`. `begin`, `enter`, `pass` and `next` are the steps of the search; `found`, `lost` and `down` what it
 -- comes to. Assumes nothing.
 use Rattle.std.specs.Prelude.{ℕ, zero, suc, ◌+◌, ◌≤◌, ◌<◌, ◌≡◌, refl, Bool, true, false, ◌⊎◌, ◌≢◌, List, eqb}
-use Rattle.std.proofs.Common.{sym, ap, ◌∙◌, subst, inl, inr, arith, eqb-true, eq-eqb, ne_eqb}
+use Rattle.std.proofs.Common.{sym, ap, ◌∙◌, subst, inl, inr, arith, eq-eqb, ne_eqb}
 use Rattle.std.proofs.Math.Decide.{ℕ_discrete, dec_lt}
 use Rattle.scan.specs.Scan.{count, has}
 use Rattle.scan.specs.Laws.{true-or, true-false, count-on, count_off, count_none}
-use Rattle.scan.specs.Counts.{count_same, count-one-more}
+use Rattle.scan.specs.Counts.{count-one-more}
 use Rattle.paths.specs.Mesh.{Mesh}
 use Rattle.paths.specs.Links.{Links}
 use Rattle.paths.specs.Ways.{Way, Shortest}

@@ -1,6 +1,7 @@
 -- The working room, a number for each relay: its lower half is the relay's label (`label`), its upper half an entry of the queue (`queued`). What a relay that is entered
 -- changes (`Entered`), and what a room holds that is cleared for a search (`Cleared`). Assumes nothing.
-use Rattle.std.specs.Prelude.{ℕ, suc, ◌+◌, ◌*◌, ◌/◌, ◌%◌, ◌≤◌, ◌<◌, ◌≡◌, refl, Bool, true, false, ◌⊎◌, ◌≢◌, List, set, replicate}
+use Rattle.std.specs.Prelude.{ℕ, ◌+◌, ◌*◌, ◌/◌, ◌%◌, ◌≤◌, ◌<◌, ◌≡◌, refl, Bool, true, false, ◌⊎◌, ◌≢◌, List, Option, Some, None, set, replicate}
+use Rattle.std.specs.Option.{is_some}
 use Rattle.std.proofs.Common.{sym, ◌∙◌, subst, inl, inr, arith, get_or-set_same, get_or-set_other}
 use Rattle.std.proofs.Math.Path.{ap}
 use Rattle.std.proofs.Math.Decide.{ℕ_discrete}
@@ -16,6 +17,15 @@ half = 4294967296
 
 unfoldable pub label : (room : List ℕ) (r : ℕ) → ℕ
 label room r = get_or room r 0 % half
+
+-- the label of a relay that is so many links from the target, or has not been reached
+abbrev pub label_of : Option ℕ → ℕ
+label_of None = 0
+label_of (Some d) = d + 1
+
+pub labelled : (o : Option ℕ) → is_some o ≡ true → 0 < label_of o
+labelled None e = absurd (cc)
+labelled (Some d) e = omega arith
 
 unfoldable pub queued : (room : List ℕ) (i : ℕ) → ℕ
 queued room i = get_or room i 0 / half

@@ -1,13 +1,13 @@
 -- The search as code does it, in the working room: what each function asks and gives. Assumes nothing.
-use Rattle.std.specs.Prelude.{ℕ, zero, suc, ◌+◌, ◌≤◌, ◌<◌, ◌≡◌, refl, true, false, ◌⊎◌, ◌≢◌, List, length, eqb}
-use Rattle.std.proofs.Common.{sym, ap, ◌∙◌, subst, inl, inr, add-one, arith, eq-eqb}
+use Rattle.std.specs.Prelude.{ℕ, suc, ◌+◌, ◌≤◌, ◌<◌, ◌≡◌, true, false, ◌⊎◌, List, length, eqb}
+use Rattle.std.proofs.Common.{sym, ap, ◌∙◌, subst, inl, inr, arith, eq-eqb}
 use Rattle.scan.specs.Scan.{has}
 use Rattle.scan.specs.Laws.{true-false}
 use Rattle.paths.specs.Ways.{Way, Shortest}
 use Rattle.mesh.specs.Kinds.{kind_of, known, mesh_of}
 use Rattle.mesh.specs.Laws.{known-near}
 use Rattle.around_search.specs.Avoid.{avoiding}
-use Rattle.around_search.specs.Labels.{Reached, halt, count-some, found, lost, down, pass, next, enter, begin}
+use Rattle.around_search.specs.Labels.{Reached, count-some, found, lost, pass, next, enter, begin}
 use Rattle.around_search.specs.Room.{half, label, queued, Entered, Cleared, cleared_halt, cleared_zero}
 
 -- the search in a room

@@ -1,17 +1,17 @@
 -- The way written, from the source down the labels: what each function asks and gives. Assumes nothing.
-use Rattle.std.specs.Prelude.{ℕ, zero, suc, ◌+◌, ◌-◌, ◌≤◌, ◌<◌, ◌≡◌, refl, Bool, true, false, ◌⊎◌, ◌≢◌, List, [], ◌∷◌, ◌++◌, length, get_or, set, drop}
-use Rattle.std.proofs.Common.{sym, ap, ap₂, ◌∙◌, subst, inl, inr, append_assoc, add-one, arith, length-append, drop-cons, drop-set-lt}
+use Rattle.std.specs.Prelude.{ℕ, zero, suc, ◌+◌, ◌<◌, ◌≡◌, refl, true, false, ◌⊎◌, ◌≢◌, List, [], ◌∷◌, ◌++◌, length, set, drop}
+use Rattle.std.proofs.Common.{ap, ap₂, ◌∙◌, subst, inl, inr, append_assoc, add-one, arith, length-append, drop-cons, drop-set-lt}
 use Rattle.std.proofs.lemmas.List.{set_at}
 use Rattle.scan.specs.Scan.{has}
 use Rattle.scan.specs.Laws.{true-or}
 use Rattle.paths.specs.Mesh.{Mesh}
 use Rattle.paths.specs.Lists.{Chain}
 use Rattle.paths.specs.Bundle.{chain_append}
-use Rattle.mesh.specs.Kinds.{kind_of, known, mesh_of}
+use Rattle.mesh.specs.Kinds.{kind_of, mesh_of}
 use Rattle.mesh.specs.Laws.{known-near}
 use Rattle.around_search.specs.Avoid.{avoiding, runs-link}
-use Rattle.around_search.specs.Labels.{halt, found, down}
-use Rattle.around_search.specs.Room.{half, label}
+use Rattle.around_search.specs.Labels.{found, down}
+use Rattle.around_search.specs.Room.{label}
 use Rattle.around_search.specs.Search.{Sought, Roomy}
 
 -- ---- one relay down

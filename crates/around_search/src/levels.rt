@@ -1,5 +1,6 @@
 // The search, breadth first from the target: each relay that is reached gets a label one above that of the relay it is reached from.
 ghost use Rattle.std.specs.Prelude.{◌≡◌, List, ℕ, ◌+◌, ◌<◌, ◌≤◌, length};
+ghost use Rattle.around_search.specs.Room.{label_of};
 ghost use Rattle.around_search.specs.Search.{Sought, Visits, Visited, Starts, Started, Spreads, Searches, Searched};
 
 use crate::queue;
@@ -34,28 +35,27 @@ fn spread(mesh: Mesh, links: u64, head: usize, tail: usize, lent: &mut [u64]) ->
     let x = queue::queued(lent, head);
     let label = queue::label(lent, x) + 1;
     let mut end = tail;
-    let mut i: u64 = 0;
-    while i < links {
+    for i in 0..links {
         end = visit(mesh::near(mesh, x, i), label, end, lent);
-        i += 1;
     }
     end
 }
 
-// Follows links until the source has a label, or there is none left to follow. Returns the source's label, which is 0 where there is no way.
-pub fn search(mesh: Mesh, links: u64, source: u64, lent: &mut [u64]) -> u64
+// Follows links until the source has a label, or there is none left to follow. Returns the hops from the source, if there is a way.
+pub fn search(mesh: Mesh, links: u64, source: u64, lent: &mut [u64]) -> Option<u64>
     requires { (stopped : List ℕ) × (t : ℕ) × Searches mesh.kind mesh.size links source stopped t lent.old }
-    ensures { (stopped : List ℕ) (t : ℕ) → Searches mesh.kind mesh.size links source stopped t lent.old → Searched mesh.kind mesh.size source stopped t lent.new result }
+    ensures { (stopped : List ℕ) (t : ℕ) → Searches mesh.kind mesh.size links source stopped t lent.old → Searched mesh.kind mesh.size source stopped t lent.new (label_of result) }
 {
+    // Stays: the queue's end moves while it is gone through, so a range would not say it.
     let mut head: usize = 0;
     let mut tail: usize = 1;
     while head < tail {
-        let label = queue::label(lent, source);
-        if label != 0 {
-            return label;
+        let hops = queue::hops(lent, source);
+        if hops.is_some() {
+            return hops;
         }
         tail = spread(mesh, links, head, tail, lent);
         head += 1;
     }
-    queue::label(lent, source)
+    queue::hops(lent, source)
 }

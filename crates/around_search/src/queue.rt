@@ -1,5 +1,6 @@
 // The working room of the search, a place for each relay: in its lower half the relay's label, in its upper half an entry of the queue. A relay is queued once at
 // most, so that there are places enough.
+// Stays: two numbers in one, since the caller lends one number for each relay.
 ghost use Rattle.std.specs.Prelude.{◌≡◌, ◌<◌, ◌≤◌, length};
 ghost use Rattle.around_search.specs.Room as specs;
 
@@ -14,6 +15,14 @@ pub fn label(room: &[u64], r: u64) -> u64
     ensures { result ≡ specs.label room.now r }
 {
     room[r as usize] % HALF
+}
+
+// How many links relay r is from the target, if it has been reached.
+pub fn hops(room: &[u64], r: u64) -> Option<u64>
+    requires { r < length room.now }
+    ensures { specs.label_of result ≡ specs.label room.now r }
+{
+    label(room, r).checked_sub(1)
 }
 
 // Entry i of the queue.
@@ -50,9 +59,7 @@ pub fn clear(relays: usize, stopped: &[u64], room: &mut [u64])
     ensures { specs.Cleared relays stopped.now (length stopped.now) (length room.old) room.new }
 {
     scan::fill(room, 0, relays, 0);
-    let mut j: usize = 0;
-    while j < stopped.len() {
-        stop(relays, stopped[j], room);
-        j += 1;
+    for x in stopped {
+        stop(relays, *x, room);
     }
 }

@@ -12,13 +12,11 @@ fn down(mesh: Mesh, links: u64, u: u64, want: u64, lent: &[u64]) -> u64
     requires { Downs mesh.kind mesh.size links u want lent.now }
     ensures { Down mesh.kind mesh.size links u want lent.now result }
 {
-    let mut i: u64 = 0;
-    while i < links {
+    for i in 0..links {
         let v = mesh::near(mesh, u, i);
         if queue::label(lent, v) == want {
             return v;
         }
-        i += 1;
     }
     u
 }
@@ -30,10 +28,8 @@ pub fn trace(mesh: Mesh, links: u64, source: u64, d: usize, lent: &[u64], out: &
 {
     out[0] = source;
     let mut at = source;
-    let mut i: usize = 0;
-    while i < d {
+    for i in 0..d {
         at = down(mesh, links, at, (d - i) as u64, lent);
-        i += 1;
-        out[i] = at;
+        out[i + 1] = at;
     }
 }

@@ -7,14 +7,12 @@ use Rattle.std.proofs.Math.Decide.{ℕ_discrete}
 use Rattle.scan.specs.Laws.{true-or, true-false}
 use Rattle.bits.specs.Bit.{bit, flip}
 use Rattle.bits.specs.Laws.{bit-cases, bit-none, bit-pow-same, bit-pow-other, flip-same, flip-other, lt-or-le}
-use Rattle.arrivals.specs.Says.{minus, further, near, kept, moved, arrival, number_of, record_of}
+use Rattle.arrivals.specs.Says.{Arrival, Passed, Seen, Old, minus, further, near, kept, moved, arrival, number_of, record_of}
 use Rattle.arrivals.specs.Laws as laws
 use Rattle.arrivals.specs.Marks.{moved-newest, moved_between, moved_older}
 use Rattle.arrivals.specs.History.{newest, ruled, marked, verdict, Sixteen, Stays}
 use Rattle.arrivals.specs.Moments as moments
 use Rattle.arrivals.specs.declared.Record.{Record}
-use Rattle.arrivals.specs.declared.Arrival.{Arrival}
-use Rattle.arrivals.specs.declared.Arrival.TheVariants.{Passed, Seen, Old}
 
 -- the record after a history that began at r
 unfoldable pub after : Record → List ℕ → Record

@@ -1,23 +1,19 @@
--- The rules case by case (`arrival-first`, `arrival-seen`, `arrival-marked`, `arrival-further`, `arrival_old`), the wrapping difference
--- (`minus_is`), and that a refusal leaves the record as it was (`refused_leaves`). Assumes nothing.
-use Rattle.std.specs.Prelude.{◌≡◌, ℕ, zero, suc, ◌+◌, ◌-◌, ◌%◌, ◌<◌, ◌≤◌, Bool, true, false, ◌==◌, ◌≢◌, nat_le, refl}
+-- The rules case by case (`arrival-first`, `arrival-seen`, `arrival-marked`, `arrival-further`, `arrival_old`), the number that is told
+-- (`number-told`), and that a refusal leaves the record as it was (`refused_leaves`). Assumes nothing.
+use Rattle.std.specs.Prelude.{◌≡◌, ℕ, zero, suc, ◌+◌, ◌%◌, ◌<◌, ◌≤◌, Bool, true, false, Result, Ok, Err, ◌==◌, ◌≢◌, nat_le, refl}
 use Rattle.std.proofs.Common.{sym, ltb-true, leb-true, lt-ltb, le-ltb, le-leb, eq-eqb, ne_eqb}
 use native.Mathlib.Omega.{arith}
 use Rattle.std.proofs.lemmas.Bool.{lt-leb}
 use Rattle.scan.specs.Scan.{pick}
 use Rattle.scan.specs.Laws.{true-false}
 use Rattle.bits.specs.Bit.{bit, flip}
-use Rattle.arrivals.specs.Says.{minus, further, near, kept, moved, arrival, number_of, record_of}
+use Rattle.answers.specs.Told.{of_reason}
+use Rattle.arrivals.specs.Says.{Arrival, Passed, Seen, Old, arrival_of, number, number_of, record_of, minus, further, near, kept, moved, arrival}
+use Rattle.arrivals.specs.declared.Dropped.{Dropped}
+use Rattle.arrivals.specs.declared.Dropped.TheVariants as dropped
 use Rattle.arrivals.specs.declared.Record.{Record}
-use Rattle.arrivals.specs.declared.Arrival.{Arrival}
-use Rattle.arrivals.specs.declared.Arrival.TheVariants.{Passed, Seen, Old}
 
 -- ---- numbers that wrap
-
--- the number that y added to wraps back to x
-pub minus_is : {x y d : ℕ} → d < 65536 → y < 65536 → (d + y) % 65536 ≡ x → d ≡ minus x y
-unfolding minus
-minus_is p q e = omega arith
 
 -- ahead and behind add up to nothing
 pub unlike : (n x : ℕ) → n < 65536 → x < 65536 → (minus x n + minus n x) % 65536 ≡ 0
@@ -143,6 +139,12 @@ pub number-few : (a : Arrival) → number_of a < 100
 number-few (Passed r) = omega arith
 number-few (Seen r) = omega arith
 number-few (Old r) = omega arith
+
+-- the number of an arrival, or 0, is what code tells of it
+pub number-told : (was : Record) (r : Result Record Dropped) → of_reason number r ≡ number_of (arrival_of was r)
+number-told was (Ok kept) = refl
+number-told was (Err dropped.Seen) = refl
+number-told was (Err dropped.Old) = refl
 
 -- a refusal leaves the record as it was
 pub refused_leaves : (r : Record) (x : ℕ) → (number_of (arrival r x) ≢ 0) → record_of (arrival r x) ≡ r

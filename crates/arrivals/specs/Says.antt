@@ -1,14 +1,30 @@
 -- What becomes of a number that arrives at a record, by the specification's rules (`arrival`): at every record, also at those that no history makes.
--- The promise leaves one arrival (`arrival_unique`). Assumes nothing.
-use Rattle.std.specs.Prelude.{◌≡◌, ℕ, ◌+◌, ◌-◌, ◌*◌, ◌%◌, ◌^◌, Bool, false, ◌==◌, nat_le, nat_lt}
-use Rattle.std.proofs.Common.{sym, ◌∙◌}
+-- The promise leaves one arrival (`arrival_unique`), and one result (`arrived_unique`). Assumes nothing.
+use Rattle.std.specs.Prelude.{◌≡◌, ℕ, ◌+◌, ◌-◌, ◌*◌, ◌%◌, ◌^◌, Bool, false, Result, Ok, Err, ◌==◌, nat_le, nat_lt}
+use Rattle.std.proofs.Common.{refl, sym, ap, ◌∙◌}
 use Rattle.scan.specs.Scan.{pick}
 use Rattle.bits.specs.Bit.{bit, flip}
 use Rattle.arrivals.specs.declared.Record.{Record}
-use Rattle.arrivals.specs.declared.Arrival.{Arrival}
-use Rattle.arrivals.specs.declared.Arrival.TheVariants.{Passed, Seen, Old}
+use Rattle.arrivals.specs.declared.Dropped.{Dropped}
+use Rattle.arrivals.specs.declared.Dropped.TheVariants as dropped
 
 -- ---- what an arrival tells
+
+-- what becomes of a number, with the record afterwards
+pub data Arrival : Type 0 where
+  Passed : Record → Arrival
+  Seen : Record → Arrival
+  Old : Record → Arrival
+
+-- a refusal holds the record as it was
+abbrev pub arrival_of : (was : Record) → Result Record Dropped → Arrival
+arrival_of was (Ok r) = Passed r
+arrival_of was (Err dropped.Seen) = Seen was
+arrival_of was (Err dropped.Old) = Old was
+
+abbrev pub number : Dropped → ℕ
+number dropped.Seen = 41
+number dropped.Old = 42
 
 abbrev pub number_of : Arrival → ℕ
 number_of (Passed r) = 0
@@ -54,3 +70,18 @@ arrival r x =
 
 pub arrival_unique : (r : Record) (x : ℕ) (a b : Arrival) → a ≡ arrival r x → b ≡ arrival r x → a ≡ b
 arrival_unique r x a b p q = p ∙ sym q
+
+-- an arrival says which result it is of
+arrived : Arrival → Result Record Dropped
+arrived (Passed r) = Ok r
+arrived (Seen r) = Err dropped.Seen
+arrived (Old r) = Err dropped.Old
+
+arrived_back : (was : Record) (a : Result Record Dropped) → arrived (arrival_of was a) ≡ a
+unfolding arrived
+arrived_back was (Ok r) = refl
+arrived_back was (Err dropped.Seen) = refl
+arrived_back was (Err dropped.Old) = refl
+
+pub arrived_unique : (was : Record) (x : ℕ) (a b : Result Record Dropped) → arrival_of was a ≡ arrival was x → arrival_of was b ≡ arrival was x → a ≡ b
+arrived_unique was x a b p q = sym (arrived_back was a) ∙ ap arrived (p ∙ sym q) ∙ arrived_back was b

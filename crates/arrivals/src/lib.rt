@@ -4,6 +4,8 @@
 ghost use Rattle.std.specs.Prelude.{◌≡◌, ◌*◌, ◌%◌, ◌^◌, ◌<◌, ◌≤◌};
 ghost use Rattle.arrivals.specs.Says as specs;
 
+use answers::Reason;
+
 // The newest number, and marks: bit e says whether the number e before the newest was passed. No marks, no frame yet: a fresh record.
 #[repr(C)]
 #[derive(Clone, Copy)]
@@ -12,40 +14,45 @@ pub struct Record {
     pub marks: u64,
 }
 
-// What becomes of a number, with the record afterwards. A refusal holds the record as it was.
-// Stays: an enum of its own and no Result, since each of the three has a record to keep, and a Result would hold it in both arms.
-#[derive(Clone, Copy)]
-pub enum Arrival {
-    // 0: the frame is passed.
-    Passed(Record),
+// Why a number is not passed. The record stays as it was.
+#[derive(Clone, Copy, PartialEq, Eq)]
+pub enum Dropped {
     // 41: a frame of this number was passed before.
-    Seen(Record),
+    Seen,
     // 42: the number is neither ahead of the newest nor among the newest 64.
-    Old(Record),
+    Old,
 }
 
-impl Arrival {
-    // 0, or the refusal's number: 41 of a number seen before.
-    pub fn number(self) -> u64
-        ensures { result ≡ specs.number_of self }
-    {
+impl Reason for Dropped {
+    ghost number_told = { specs.number };
+
+    ghost path_told = { λ why. 0 };
+
+    ghost place_told = { λ why. 0 };
+
+    // The specification's number: `Dropped::Seen.number()` is 41.
+    fn number(self) -> u64 {
         match self {
-            Arrival::Passed(_) => 0,
-            Arrival::Seen(_) => 41,
-            Arrival::Old(_) => 42,
+            Dropped::Seen => 41,
+            Dropped::Old => 42,
         }
     }
 
-    // The record to keep.
-    pub fn record(self) -> Record
-        ensures { result ≡ specs.record_of self }
-    {
-        match self {
-            Arrival::Passed(kept) => kept,
-            Arrival::Seen(kept) => kept,
-            Arrival::Old(kept) => kept,
-        }
+    // It is about no path and no place.
+    fn path(self) -> usize {
+        0
     }
+
+    fn place(self) -> usize {
+        0
+    }
+}
+
+// The record to keep after an arrival: the new one, or of a number that is not passed the one that was.
+pub fn kept(was: Record, arrived: Result<Record, Dropped>) -> Record
+    ensures { result ≡ specs.record_of (specs.arrival_of was arrived) }
+{
+    arrived.unwrap_or(was)
 }
 
 // The marks so many places further; those that fall out of 64 bits are lost.
@@ -64,36 +71,35 @@ fn moved(marks: u64, by: u16) -> u64
     if by < 64 { shifted(marks, by) | 1 } else { 1 }
 }
 
-// The arrival of a number: of 7, 7, 8, 7 at a fresh record the first and the third are passed.
+// The record after the arrival of a number, or why it is not passed: of 7, 7, 8, 7 at a fresh record the first and the third are passed.
 #[tactic(auto, using(crate::proofs::Rules::passed_ahead))]
-pub fn arrive(was: Record, number: u16) -> Arrival
-    ensures { result ≡ specs.arrival was number }
+pub fn arrive(was: Record, number: u16) -> Result<Record, Dropped>
+    ensures { specs.arrival_of was result ≡ specs.arrival was number }
 {
     let newest = was.newest;
     let marks = was.marks;
     if marks == 0 {
-        return Arrival::Passed(Record {
+        return Ok(Record {
             newest: number,
             marks: 1,
         });
     }
-    // Stays: these two functions and not the methods, since they promise the equation of the sum that the rules are proved from.
-    let ahead = std::num::wrapping_sub_u16(number, newest);
-    let behind = std::num::wrapping_sub_u16(newest, number);
+    let ahead = number.wrapping_sub(newest);
+    let behind = newest.wrapping_sub(number);
     if behind < 64 {
         if bits::bit(marks, u32::from(behind)) {
-            return Arrival::Seen(was);
+            return Err(Dropped::Seen);
         }
-        return Arrival::Passed(Record {
-            newest: newest,
+        return Ok(Record {
+            newest,
             marks: bits::flip(marks, u32::from(behind)),
         });
     }
     if ahead <= 32767 {
-        return Arrival::Passed(Record {
+        return Ok(Record {
             newest: number,
             marks: moved(marks, ahead),
         });
     }
-    Arrival::Old(was)
+    Err(Dropped::Old)
 }

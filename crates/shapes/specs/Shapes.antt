@@ -1,5 +1,5 @@
 -- What the structs that C is given say, by what the library's answers tell. The laws that put a struct together. Assumes nothing.
-use Rattle.std.specs.Prelude.{ℕ, ◌≡◌, Bool}
+use Rattle.std.specs.Prelude.{ℕ, ◌≡◌, Bool, Result, Ok, Err}
 use Rattle.std.proofs.Common.{ap, ap₂, ◌∙◌}
 use Rattle.scan.specs.Scan.{pick}
 use Rattle.answers.specs.Told as told
@@ -12,7 +12,7 @@ use Rattle.survivors.specs.Tally.{Tallied, ruling_of, whole_of}
 use Rattle.sheet.specs.Says.{WriteTold, written_number, written_path, written_place, written_bytes, ReadTold, read_number, read_path, read_place, read_kind, read_size, read_source, read_count}
 use Rattle.arrivals.specs.Says as frames
 use Rattle.arrivals.specs.declared.Record.{Record}
-use Rattle.arrivals.specs.declared.Arrival.{Arrival}
+use Rattle.arrivals.specs.Says.{Arrival}
 use Rattle.shapes.specs.declared.GustAnswer.{GustAnswer}
 use Rattle.shapes.specs.declared.GustFacts.{GustFacts}
 use Rattle.shapes.specs.declared.GustVerdict.{GustVerdict}
@@ -118,3 +118,10 @@ facts-same a b c d e f = six facts a b c d e f
 pub arrival-same : {n n₁ : ℕ} {r r₁ : Record} → n ≡ n₁ → r ≡ r₁
     → ◌≡◌ {A = GustArrival} (record { number = n; newest = r.newest; marks = r.marks }) (record { number = n₁; newest = r₁.newest; marks = r₁.marks })
 arrival-same a b = ap₂ (λ (x : ℕ) (y : Record). record { number = x; newest = y.newest; marks = y.marks }) a b
+
+-- ---- what any call tells
+
+-- by the number, path and place of its reasons
+abbrev pub told_in : {R : Type 0} (number path place : R → ℕ) → Result ℕ R → GustAnswer
+told_in number path place (Ok v) = answer 0 0 0 v
+told_in number path place (Err why) = answer (number why) (path why) (place why) 0

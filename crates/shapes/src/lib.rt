@@ -7,15 +7,16 @@ ghost use Rattle.answers.specs.Told.{answer_told, yes_no_told, against, tell};
 ghost use Rattle.mesh.specs.Kinds.{kind_of};
 ghost use Rattle.judge.specs.Says.{verdict_told};
 ghost use Rattle.survivors.specs.Tally.{tally_told};
-ghost use Rattle.sheet.specs.Says.{written_told, reading_told};
+ghost use Rattle.sheet.specs.Says.{written_told, reading_told, head_told, version_told};
+ghost use Rattle.arrivals.specs.Says.{arrival_of};
 ghost use Rattle.shapes.specs.Shapes as specs;
 
-use answers::{Answer, Checked, YesNo};
-use arrivals::Arrival;
-use judge::Verdict;
+use answers::{Reason, Refusal};
+use arrivals::{Dropped, Record};
+use judge::Fault;
 use mesh::Mesh;
-use sheet::{Reading, Versioned, Written};
-use survivors::Tally;
+use requests::Facts;
+use sheet::{Flaw, Head, Versioned};
 
 // One value: hops, a distance, 1 or 0 for yes or no, how many paths are planned or are whole, how many bytes were written.
 #[repr(C)]
@@ -89,7 +90,19 @@ pub struct GustArrival {
 fn flag(b: bool) -> u64
     ensures { result ≡ pick b 1 0 }
 {
-    if b { 1 } else { 0 }
+    u64::from(b)
+}
+
+// Number, path and place of what stands against a call, whatever that can be, and the value, which is 0 then.
+fn of<R: Reason>(answer: Result<u64, R>) -> GustAnswer
+    ensures { result ≡ specs.told_in R.number_told R.path_told R.place_told answer }
+{
+    GustAnswer {
+        number: answers::number(answer),
+        path: answers::path(answer) as u64,
+        place: answers::place(answer) as u64,
+        value: answer.unwrap_or(0),
+    }
 }
 
 pub fn of_facts(mesh: Mesh) -> GustFacts
@@ -97,110 +110,76 @@ pub fn of_facts(mesh: Mesh) -> GustFacts
 {
     let relays = mesh.relays();
     GustFacts {
-        number: relays.number(),
+        number: answers::number(relays),
         path: 0,
-        place: relays.place() as u64,
-        relays: relays.value(),
-        links: mesh.links().value(),
-        longest: mesh.longest().value(),
-        places: mesh.places().value(),
+        place: answers::place(relays) as u64,
+        relays: answers::value(relays),
+        links: answers::value(mesh.links()),
+        longest: answers::value(mesh.longest()),
+        places: answers::value(mesh.places()),
     }
 }
 
-pub fn of_answer(a: Answer) -> GustAnswer
+pub fn of_answer(a: Result<u64, Refusal>) -> GustAnswer
     ensures { result ≡ specs.answer_in (answer_told a) }
 {
-    GustAnswer {
-        number: a.number(),
-        path: 0,
-        place: a.place() as u64,
-        value: a.value(),
-    }
+    of(a)
 }
 
-pub fn of_yes_no(a: YesNo) -> GustAnswer
+pub fn of_yes_no(a: Result<bool, Refusal>) -> GustAnswer
     ensures { result ≡ specs.yes_no_in (yes_no_told a) }
 {
-    GustAnswer {
-        number: a.number(),
-        path: 0,
-        place: a.place() as u64,
-        value: flag(a.yes()),
-    }
+    of(a.map(flag))
 }
 
 // What a planner says, with how many paths it was asked for.
-pub fn of_checked(c: Checked, paths: u64) -> GustAnswer
+pub fn of_checked(c: Result<(), Refusal>, paths: u64) -> GustAnswer
     ensures { result ≡ specs.answer_in (tell (against c) 0 paths) }
 {
-    match c {
-        Checked::Fine => GustAnswer {
-            number: 0,
-            path: 0,
-            place: 0,
-            value: paths,
-        },
-        Checked::Refused(why) => GustAnswer {
-            number: why.number(),
-            path: 0,
-            place: why.place() as u64,
-            value: 0,
-        },
-    }
+    of(c.map(|()| paths))
 }
 
-pub fn of_verdict(v: Verdict) -> GustVerdict
+pub fn of_verdict(v: Result<(), Fault>) -> GustVerdict
     ensures { result ≡ specs.verdict_in (verdict_told v) }
 {
     GustVerdict {
-        number: v.number(),
-        path: v.path() as u64,
-        place: v.place() as u64,
+        number: answers::number(v),
+        path: answers::path(v) as u64,
+        place: answers::place(v) as u64,
     }
 }
 
-pub fn of_tally(t: Tally) -> GustAnswer
+pub fn of_tally(t: Result<u64, Fault>) -> GustAnswer
     ensures { result ≡ specs.tally_in (tally_told t) }
 {
-    GustAnswer {
-        number: t.number(),
-        path: t.path() as u64,
-        place: t.place() as u64,
-        value: t.whole(),
-    }
+    of(t)
 }
 
-pub fn of_written(w: Written) -> GustAnswer
+pub fn of_written(w: Result<usize, Flaw>) -> GustAnswer
     ensures { result ≡ specs.written_in (written_told w) }
 {
-    GustAnswer {
-        number: w.number(),
-        path: w.path() as u64,
-        place: w.place() as u64,
-        value: w.bytes() as u64,
-    }
+    of(w.map(|bytes| bytes as u64))
 }
 
-pub fn of_reading(read: Reading) -> GustReading
+pub fn of_reading(read: Result<Head, Flaw>) -> GustReading
     ensures { result ≡ specs.reading_in (reading_told read) }
 {
-    let mesh = read.mesh();
+    let head = sheet::told(read);
     GustReading {
-        number: read.number(),
-        path: read.path() as u64,
-        place: read.place() as u64,
-        kind: mesh.kind,
-        size: mesh.size,
-        source: read.source(),
-        paths: read.paths() as u64,
+        number: answers::number(read),
+        path: answers::path(read) as u64,
+        place: answers::place(read) as u64,
+        kind: head.mesh.kind,
+        size: head.mesh.size,
+        source: head.source,
+        paths: head.paths as u64,
     }
 }
 
-pub fn of_versioned(read: Versioned) -> GustZonedReading
-    ensures { result ≡ specs.versioned_in read.version (reading_told read.reading) }
+pub fn of_versioned(read: Result<Versioned, Flaw>) -> GustZonedReading
+    ensures { result ≡ specs.versioned_in (version_told read) (reading_told (head_told read)) }
 {
-    let reading = read.reading;
-    let told = of_reading(reading);
+    let told = of_reading(read.map(|sheet| sheet.head));
     GustZonedReading {
         number: told.number,
         path: told.path,
@@ -209,17 +188,17 @@ pub fn of_versioned(read: Versioned) -> GustZonedReading
         size: told.size,
         source: told.source,
         paths: told.paths,
-        version: read.version,
+        version: sheet::version_told(read),
     }
 }
 
-pub fn of_arrival(a: Arrival) -> GustArrival
-    ensures { result ≡ specs.arrival_in a }
+pub fn of_arrival(was: Record, arrived: Result<Record, Dropped>) -> GustArrival
+    ensures { result ≡ specs.arrival_in (arrival_of was arrived) }
 {
-    let number = a.number() as u16;
-    let kept = a.record();
+    let number = answers::number(arrived) as u16;
+    let kept = arrivals::kept(was, arrived);
     GustArrival {
-        number: number,
+        number,
         newest: kept.newest,
         marks: kept.marks,
     }

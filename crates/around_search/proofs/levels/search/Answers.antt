@@ -1,6 +1,6 @@
-use Rattle.std.proofs.Common.{ℕ, ◌-◌, ◌<◌, ◌≡◌, refl, sym, ap, ◌∙◌, inl, inr, List, arith, length, rules}
-use Rattle.mesh.specs.Kinds.{mesh_of}
-use Rattle.around_search.specs.Search.{Roomy, Sought, Searches, tail_fits, as_roomy, searched}
+use Rattle.std.proofs.Common.{ℕ, ◌<◌, refl, sym, ◌∙◌, inl, inr, List, arith, length}
+use Rattle.around_search.specs.Room.{labelled}
+use Rattle.around_search.specs.Search.{tail_fits, as_roomy, searched}
 use Rattle.around_search.proofs.levels.search.Invariants.{Inv}
 use Rattle.around_search.proofs.levels.search.Goals as goal
 
@@ -13,11 +13,11 @@ loop-head-init c =
     let (stopped, t, S) = c.requires in
     record { long = refl; ground = S.ground; some = (stopped, t, S, S.begun); all = λ stopped t S. S.begun }
 
-pub label-label-requires : goal.label-label-requires
-label-label-requires c = placed c.loop-head.invariant
+pub hops-hops-requires : goal.hops-hops-requires
+hops-hops-requires c = placed c.loop-head.invariant
 
-pub returns-then-label-ne0 : goal.returns-then-label-ne0
-returns-then-label-ne0 c = λ stopped t S. searched S (c.loop-head.invariant.all stopped t S) c.label-label.ensures (inl (omega (arith, c.if-label-ne0.true)))
+pub returns-then-is_some : goal.returns-then-is_some
+returns-then-is_some c = λ stopped t S. searched S (c.loop-head.invariant.all stopped t S) c.hops-hops.ensures (inl (labelled _ (sym c.if-is_some.ensures)))
 
 pub spread-tail-requires : goal.spread-tail-requires
 spread-tail-requires c =
@@ -49,8 +49,8 @@ loop-head-preserved c =
       all = λ stopped t S. c.spread-tail.ensures stopped t (v.all stopped t S);
     }
 
-pub label-requires : goal.label-requires
-label-requires c = placed c.loop-head.invariant
+pub hops-requires : goal.hops-requires
+hops-requires c = placed c.loop-head.invariant
 
 pub returns : goal.returns
-returns c = λ stopped t S. searched S (c.loop-head.invariant.all stopped t S) c.label.ensures (inr (omega (arith, c.loop-head-test.false)))
+returns c = λ stopped t S. searched S (c.loop-head.invariant.all stopped t S) c.hops.ensures (inr (omega (arith, c.loop-head-test.false)))

@@ -1,7 +1,7 @@
 -- `around_search::levels::search` meets its contract. The invariant: the relays in the queue have been reached, and the links of those before the head followed. Assumes nothing.
-use Rattle.std.proofs.Common.{ℕ, ◌-◌, ◌<◌, ◌≡◌, refl, sym, ap, ◌∙◌, inl, inr, List, arith, length, rules}
+use Rattle.std.proofs.Common.{ℕ, ◌-◌, ◌≡◌, List, length}
 use Rattle.mesh.specs.Kinds.{mesh_of}
-use Rattle.around_search.specs.Search.{Roomy, Sought, Searches, tail_fits, as_roomy, searched}
+use Rattle.around_search.specs.Search.{Roomy, Sought, Searches}
 use Rattle.around_search.proofs.levels.search.Given as goal
 
 pub record Inv (kind n links source : ℕ) (room₀ room : List ℕ) (head tail : ℕ) : Type 0 where

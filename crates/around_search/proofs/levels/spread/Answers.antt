@@ -1,10 +1,6 @@
-use Rattle.std.proofs.Common.{ℕ, ◌-◌, ◌≡◌, refl, ap, ◌∙◌, List, arith, rules, length}
+use Rattle.std.proofs.Common.{refl, ap, ◌∙◌, arith}
 use Rattle.around_search.specs.Room.{label}
-use Rattle.around_search.specs.Search.{Roomy, Sought, Spreading, tail_fits, next-label, begun, visits, as_roomy, spread_more, spread_all}
-use Rattle.around_search.proofs.levels.visit.Reads as visit-reads
-use Rattle.around_search.proofs.queue.label.Reads as label-reads
-use Rattle.around_search.proofs.queue.queued.Reads as queued-reads
-use Rattle.mesh.proofs.near.Reads as near-reads
+use Rattle.around_search.specs.Search.{tail_fits, next-label, begun, visits, as_roomy, spread_more, spread_all}
 use Rattle.around_search.proofs.levels.spread.Goals as goal
 
 pub queued-x-requires : goal.queued-x-requires
@@ -44,9 +40,6 @@ visit-end-requires c =
     let (stopped, t, S) = v.some in
     visits v.ground S c.loop-i-test.true c.near.ensures
 
-pub overflow_add-i : goal.overflow_add-i
-overflow_add-i c = omega (arith, c.loop-i-test.true, c.well_formed)
-
 pub loop-i-preserved : goal.loop-i-preserved
 loop-i-preserved c =
     let v = c.loop-i.invariant in
@@ -61,4 +54,4 @@ loop-i-preserved c =
     }
 
 pub returns : goal.returns
-returns c = let v = c.loop-i.invariant in λ stopped t R. spread_all v.ground (v.all stopped t R) (omega (arith, c.loop-i-test.false))
+returns c = let v = c.loop-i.invariant in λ stopped t R. spread_all v.ground (v.all stopped t R) (omega arith)

@@ -1,10 +1,5 @@
-use Rattle.std.proofs.Common.{ℕ, ◌-◌, ◌≡◌, refl, ap, ◌∙◌, List, arith, rules, length}
-use Rattle.around_search.specs.Room.{label}
-use Rattle.around_search.specs.Search.{Roomy, Sought, Spreading, tail_fits, next-label, begun, visits, as_roomy, spread_more, spread_all}
-use Rattle.around_search.proofs.levels.visit.Reads as visit-reads
-use Rattle.around_search.proofs.queue.label.Reads as label-reads
-use Rattle.around_search.proofs.queue.queued.Reads as queued-reads
-use Rattle.mesh.proofs.near.Reads as near-reads
+use Rattle.std.proofs.Common.{ℕ, ◌≡◌, List, length}
+use Rattle.around_search.specs.Search.{Roomy, Sought, Spreading}
 use Rattle.around_search.proofs.levels.spread.Given as goal
 
 pub record Inv (kind n links head tail : ℕ) (room₀ room : List ℕ) (x l end i : ℕ) : Type 0 where
@@ -15,6 +10,3 @@ pub record Inv (kind n links head tail : ℕ) (room₀ room : List ℕ) (x l end
 
 abbrev pub invariant-loop-i : goal.invariant-loop-i
 invariant-loop-i l = Inv l.mesh.kind l.mesh.size l.links l.head l.tail l.initial.lent l.lent l.x l.label l.end l.i
-
-abbrev pub decreases-loop-i : goal.decreases-loop-i
-decreases-loop-i l = l.links - l.i

@@ -1,6 +1,6 @@
 -- `around_search::levels::start` meets its contract. Assumes nothing.
-use Rattle.std.proofs.Common.{refl, sym, ap, ◌∙◌, subst, List, ℕ, arith, length, rules}
-use Rattle.around_search.specs.Search.{Started, starts}
+use Rattle.std.proofs.Common.{arith}
+use Rattle.around_search.specs.Search.{starts}
 use Rattle.around_search.proofs.levels.start.Goals as goal
 
 pub clear-requires : goal.clear-requires

@@ -1,6 +1,4 @@
-use Rattle.std.proofs.Common.{refl, sym, ◌∙◌, inl, inr, arith, rules}
-use Rattle.around_search.proofs.queue.enter.Reads as enter-reads
-use Rattle.around_search.proofs.queue.label.Reads as label-reads
+use Rattle.std.proofs.Common.{refl, sym, ◌∙◌, inl, inr, arith}
 use Rattle.around_search.proofs.levels.visit.Goals as goal
 
 pub label-requires : goal.label-requires

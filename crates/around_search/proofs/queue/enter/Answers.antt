@@ -1,4 +1,4 @@
-use Rattle.std.proofs.Common.{rules, refl, arith}
+use Rattle.std.proofs.Common.{refl, arith}
 use Rattle.around_search.specs.Room.{entered}
 use Rattle.around_search.proofs.queue.enter.Goals as goal
 

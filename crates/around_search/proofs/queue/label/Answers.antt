@@ -1,4 +1,4 @@
-use Rattle.std.proofs.Common.{rules, refl}
+use Rattle.std.proofs.Common.{refl}
 use Rattle.around_search.specs.Room.{label}
 use Rattle.around_search.proofs.queue.label.Goals as goal
 

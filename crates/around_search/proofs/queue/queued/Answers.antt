@@ -1,4 +1,4 @@
-use Rattle.std.proofs.Common.{rules, refl}
+use Rattle.std.proofs.Common.{refl}
 use Rattle.around_search.specs.Room.{queued}
 use Rattle.around_search.proofs.queue.queued.Goals as goal
 

@@ -1,4 +1,4 @@
-use Rattle.std.proofs.Common.{rules, arith}
+use Rattle.std.proofs.Common.{arith}
 use Rattle.around_search.specs.Room.{marked, unmarked}
 use Rattle.around_search.proofs.queue.stop.Goals as goal
 

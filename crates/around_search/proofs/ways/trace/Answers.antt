@@ -1,5 +1,5 @@
-use Rattle.std.proofs.Common.{ℕ, ◌+◌, ◌-◌, ◌≤◌, ◌≡◌, refl, sym, ap, ◌∙◌, List, arith, length, length-set, rules}
-use Rattle.around_search.specs.Trace.{Traces, Tracing, trace_starts, as_long, goes_down, trace_more, trace_all}
+use Rattle.std.proofs.Common.{◌+◌, refl, ◌∙◌, arith, length-set}
+use Rattle.around_search.specs.Trace.{trace_starts, as_long, goes_down, trace_more, trace_all}
 use Rattle.around_search.proofs.ways.trace.Goals as goal
 
 pub bounds-out-0 : goal.bounds-out-0
@@ -19,9 +19,6 @@ loop-i-init c =
 
 pub down-at-requires : goal.down-at-requires
 down-at-requires c = let (stopped, t, T, W) = c.loop-i.invariant.some in goes_down T W c.loop-i-test.true (omega (arith, c.loop-i-test.true))
-
-pub overflow_add-i : goal.overflow_add-i
-overflow_add-i c = omega (arith, c.loop-i-test.true, c.well_formed)
 
 pub bounds-out-i : goal.bounds-out-i
 bounds-out-i c = let v = c.loop-i.invariant in let (stopped, t, T, W) = v.some in omega (arith, c.loop-i-test.true, T.fits, v.long)

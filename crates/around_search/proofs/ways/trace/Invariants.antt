@@ -1,6 +1,6 @@
 -- `around_search::ways::trace` meets its contract. The invariant: after i hops the first i + 1 places hold a way, and the label of its end is i lower. Assumes nothing.
-use Rattle.std.proofs.Common.{ℕ, ◌+◌, ◌-◌, ◌≤◌, ◌≡◌, refl, sym, ap, ◌∙◌, List, arith, length, length-set, rules}
-use Rattle.around_search.specs.Trace.{Traces, Tracing, trace_starts, as_long, goes_down, trace_more, trace_all}
+use Rattle.std.proofs.Common.{ℕ, ◌≤◌, ◌≡◌, List, length}
+use Rattle.around_search.specs.Trace.{Traces, Tracing}
 use Rattle.around_search.proofs.ways.trace.Given as goal
 
 pub record Inv (kind n links s d : ℕ) (room : List ℕ) (places : ℕ) (out₀ out : List ℕ) (at i : ℕ) : Type 0 where
@@ -11,6 +11,3 @@ pub record Inv (kind n links s d : ℕ) (room : List ℕ) (places : ℕ) (out₀
 
 abbrev pub invariant-loop-i : goal.invariant-loop-i
 invariant-loop-i l = Inv l.mesh.kind l.mesh.size l.links l.source l.d l.lent (length l.initial.out) l.initial.out l.out l.at l.i
-
-abbrev pub decreases-loop-i : goal.decreases-loop-i
-decreases-loop-i l = l.d - l.i
