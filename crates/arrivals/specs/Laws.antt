@@ -1,6 +1,6 @@
 -- The rules case by case (`arrival-first`, `arrival-seen`, `arrival-marked`, `arrival-further`, `arrival_old`), the wrapping difference
 -- (`minus_is`), and that a refusal leaves the record as it was (`refused_leaves`). Assumes nothing.
-use Rattle.std.specs.Prelude.{◌≡◌, ℕ, zero, suc, ◌+◌, ◌-◌, ◌%◌, ◌<◌, ◌≤◌, Bool, true, false, ◌==◌, ◌≢◌, nat_le, refl}
+use Rattle.std.specs.Prelude.{◌≡◌, ℕ, zero, suc, ◌+◌, ◌%◌, ◌<◌, ◌≤◌, Bool, true, false, ◌==◌, ◌≢◌, nat_le, refl}
 use Rattle.std.proofs.Common.{sym, ltb-true, leb-true, lt-ltb, le-ltb, le-leb, eq-eqb, ne_eqb}
 use native.Mathlib.Omega.{arith}
 use Rattle.std.proofs.lemmas.Bool.{lt-leb}

@@ -1,5 +1,5 @@
 -- `arrivals::moved` meets its contract: the shift leaves bit 0 free, and from 64 on nothing is left. Assumes nothing.
-use Rattle.std.proofs.Common.{ℕ, ap, ◌∙◌, arith, rules, bit_or}
+use Rattle.std.proofs.Common.{ℕ, ap, ◌∙◌, arith, bit_or}
 use Rattle.arrivals.specs.Marks.{moved_shift, moved-far}
 use Rattle.arrivals.proofs.moved.Goals as goal
 
