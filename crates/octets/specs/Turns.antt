@@ -92,7 +92,7 @@ pub put_eight : (l : List ℕ) {part : List ℕ} (at v : ℕ) → part ≡ bytes
 put_eight l {part} at v e h =
     let long : length (big 8 v) ≡ 8 = big-length 8 v in
     let behind : drop (at + 8 - at) (drop at l) ≡ drop (at + length (big 8 v)) l =
-        drop-drop (at + 8 - at) at l ∙ ap (λ (i : ℕ). drop i l) (omega arith) in
+    drop-drop (at + 8 - at) at l ∙ ap (λ (i : ℕ). drop i l) (omega arith) in
     ap₂ (λ (m r : List ℕ). take at l ++ (m ++ r)) (e ∙ big-bytes 8 v) behind ∙ sym (sets-eq (big 8 v) l at (omega arith) ∙ append_assoc (take at l) (big 8 v) (drop (at + length (big 8 v)) l))
 
 -- a number that the library read from a part

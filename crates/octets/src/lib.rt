@@ -30,6 +30,7 @@ pub fn number(bytes: &[u8], at: usize, w: usize) -> u64
 }
 
 // Writes the eight bytes of a number from the place `at` on: a store and a byte swap, once compiled.
+// Stays: beside `put`, whose width is known only when it runs, so that it is a loop.
 pub fn put_eight(value: u64, at: usize, out: &mut [u8])
     requires { at + 8 ≤ length out.old }
     ensures { out.new ≡ sets out.old at (big 8 value) }
