@@ -53,7 +53,13 @@ fn put_fan(out: &mut [u8], k: usize, w: usize, places: &[u64], counts: &[u64]) -
 // Writes `fan k` and the k paths that stand in `places` and `counts`, each in w places, as text at the front of `out`, and answers how many bytes: a line for
 // each path with its hops and then all its relays. Of the paths 0, 2, 3 and 0, 1 it is `fan 2`, `2 0 2 3` and `1 0 1`. Refuses with 8 where there are fewer
 // than k counts, k * w places or `fan_room` bytes, or where a path is longer than its places; a refusal changes nothing.
-pub fn write_fan(k: usize, w: usize, places: &[u64], counts: &[u64], out: &mut [u8]) -> Result<u64, Refusal>
+pub fn write_fan(
+    k: usize,
+    w: usize,
+    places: &[u64],
+    counts: &[u64],
+    out: &mut [u8],
+) -> Result<u64, Refusal>
     ensures told { answer_told result ≡ specs.write_told (specs.wanting k w places.now counts.now (length out.old)) (specs.fan_text k w places.now counts.now) }
     ensures left { out.new ≡ specs.write_leaves (specs.wanting k w places.now counts.now (length out.old)) (specs.fan_text k w places.now counts.now) out.old }
 {
