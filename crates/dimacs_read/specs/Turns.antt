@@ -3,27 +3,22 @@ use Rattle.std.specs.Prelude.{ℕ, zero, suc, ◌+◌, ◌-◌, ◌*◌, ◌/◌
 use Rattle.std.specs.Prelude as rust
 use Rattle.std.specs.Prelude.{Some, None, Result, Ok, Err, ⊤}
 use Rattle.std.proofs.Math.Path.{refl}
-use Rattle.std.proofs.Common.{sym, ap, ap₂, ◌∙◌, subst, arith, eq-eqb, ne_eqb}
-use Rattle.std.proofs.Math.Option.{Option, none, some}
+use Rattle.std.proofs.Common.{sym, ap, ◌∙◌, subst, arith}
 use Rattle.scan.specs.Scan.{Spot, nowhere, at, pick, any}
 use Rattle.scan.specs.Laws.{true-false}
-use Rattle.answers.specs.Order.{first}
-use Rattle.answers.specs.Told.{against}
-use Rattle.answers.specs.declared.Refusal.{Refusal}
 use Rattle.paths.specs.Mesh.{Mesh}
-use Rattle.mesh.specs.Kinds.{kind_of, mesh_of}
+use Rattle.mesh.specs.Kinds.{mesh_of}
 use Rattle.dimacs.specs.Text.{Edge, edge, link_count}
 use Rattle.dimacs.specs.Parse.{Line, comment, counts, link, malformed, line_at, lines, lines_of}
-use Rattle.dimacs.specs.Says.{export_faults_in, malformed_at, counted, is_link, stands, wrong_at, edges_from, edges_of, missing, or_malformed, or_wrong, or_refused, judged, read_of, Verdict, yes}
+use Rattle.dimacs.specs.Says.{is_link, stands, wrong_at, edges_from, edges_of, missing, or_wrong, Verdict, yes}
 use Rattle.dimacs.specs.Lines.{lines-all, lines_end, lines-broken}
-use Rattle.dimacs.specs.Needs.{Exported, export_fine}
 use Rattle.dimacs_size.specs.Sizes.{Rows}
 use Rattle.dimacs_marks.specs.Marks.{Marked, Marks, marked-none, lacks_any, lacking-missing}
-use Rattle.dimacs.specs.declared.Fault.TheVariants.{Refused, Malformed, WrongCounts, WrongLink, Missing}
+use Rattle.dimacs.specs.declared.Fault.TheVariants.{WrongCounts, WrongLink, Missing}
 use Rattle.dimacs_take.specs.Takes.{Taken}
 use Rattle.dimacs_take.specs.declared.Line as code
 use Rattle.dimacs_take.specs.declared.Line.TheVariants.{Comment, Counts, Link}
-use Rattle.dimacs_read.specs.Forms.{Formed, next_is, one_less}
+use Rattle.dimacs_read.specs.Forms.{next_is, one_less}
 
 -- ---- what the definitions say, line by line
 
