@@ -23,6 +23,7 @@ fn say(to: &impl Print, judged: Result<(), Fault>) -> io::Result<()> {
     let Err(why) = judged else {
         return to.write_all(b"yes\n");
     };
+    // Stays: put_refused writes it, whose contract says the bytes; of what print! writes no contract speaks.
     let mut out = [0u8; 50];
     let n = graph_line::put_refused(why.number(), why.place() as u64, &mut out);
     match out.get(..n) {
