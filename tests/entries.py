@@ -30,39 +30,34 @@ use std::io;
 fn put_entry(to: &impl Print, e: Entry) -> io::Result<()> {
     put(to, e.target)?;
     put(to, e.hops)?;
-    put(to, if e.whole { 1 } else { 0 })?;
-    put(to, e.zone as u64)
+    put(to, u64::from(e.whole))?;
+    put(to, u64::from(e.zone))
 }
 
 fn tell(to: &impl Print, mode: u64, mesh: Mesh, source: u64, targets: &[u64], places: &[u64], counts: &[u64], zones: &[u32], stopped: &[u64], cuts: &[u64], room: usize) -> io::Result<()> {
     let mut out = [Entry { target: 9, hops: 9, whole: true, zone: 9 }; 40];
-    let n = script::least(room, 40);
+    let n = room.min(40);
     let t = if mode == 0 {
         entries::survivors(mesh, source, targets, places, counts, zones, stopped, cuts, &mut out[..n])
     } else {
         entries::bundle_survivors(mesh, source, item(targets, 0), places, counts, zones, stopped, cuts, &mut out[..n])
     };
-    put(to, t.number())?;
-    put(to, t.path() as u64)?;
-    put(to, t.place() as u64)?;
-    put(to, t.whole())?;
-    let mut i: usize = 0;
-    while i < n {
-        put_entry(to, out[i])?;
-        i += 1;
+    put(to, answers::number(t))?;
+    put(to, answers::path(t) as u64)?;
+    put(to, answers::place(t) as u64)?;
+    put(to, t.unwrap_or(0))?;
+    for entry in &out[..n] {
+        put_entry(to, *entry)?;
     }
     script::text(to, b"\\n")
 }
 
 // The numbers of a list, of 32 bits each, and how many.
 fn narrow(list: &[u64], out: &mut [u32]) -> usize {
-    let n = script::least(list.len(), out.len());
-    let mut i: usize = 0;
-    while i < n {
-        out[i] = list[i] as u32;
-        i += 1;
+    for (to, from) in out.iter_mut().zip(list) {
+        *to = *from as u32;
     }
-    n
+    list.len().min(out.len())
 }
 
 fn case(to: &impl Print, list: &[u64], from: usize) -> io::Result<usize> {

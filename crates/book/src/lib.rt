@@ -5,6 +5,7 @@ ghost use Rattle.std.specs.Prelude.{◌≡◌};
 ghost use Rattle.book.specs.declared.NotAdded.TheVariants as NotAdded;
 ghost use Rattle.book.specs.Told as told;
 
+use answers::Reason;
 use sheet::Flaw;
 
 // How many bytes are in use, removed sheets counted, and how many places of the index. An empty book is 0, 0, over any slices.
@@ -67,11 +68,15 @@ impl From<Flaw> for NotAdded {
     }
 }
 
-impl NotAdded {
-    // The number of the reason.
-    pub fn number(self) -> u64
-        ensures { result ≡ told.reason_number self }
-    {
+impl Reason for NotAdded {
+    ghost number_told = { told.reason_number };
+
+    ghost path_told = { told.reason_path };
+
+    ghost place_told = { told.reason_place };
+
+    // The reader's number, 39, 40 or 8.
+    fn number(self) -> u64 {
         match self {
             NotAdded::Flawed(f) => f.number(),
             NotAdded::There => 39,
@@ -81,9 +86,7 @@ impl NotAdded {
     }
 
     // The path that the reader tells, and 0 of all else.
-    pub fn path(self) -> usize
-        ensures { result ≡ told.reason_path self }
-    {
+    fn path(self) -> usize {
         match self {
             NotAdded::Flawed(f) => f.path(),
             _ => 0,
@@ -91,9 +94,7 @@ impl NotAdded {
     }
 
     // The place that the reader tells, and 0 of all else.
-    pub fn place(self) -> usize
-        ensures { result ≡ told.reason_place self }
-    {
+    fn place(self) -> usize {
         match self {
             NotAdded::Flawed(f) => f.place(),
             _ => 0,
@@ -101,21 +102,28 @@ impl NotAdded {
     }
 }
 
-impl NotOpened {
+impl Reason for NotOpened {
+    ghost number_told = { told.unopened_number };
+
+    ghost path_told = { λ why. 0 };
+
+    ghost place_told = { told.unopened_place };
+
     // 53 or 40.
-    pub fn number(self) -> u64
-        ensures { result ≡ told.unopened_number self }
-    {
+    fn number(self) -> u64 {
         match self {
             NotOpened::Bad(_) => 53,
             NotOpened::Full => 40,
         }
     }
 
+    // No reason is about a path.
+    fn path(self) -> usize {
+        0
+    }
+
     // The start that 53 tells, and 0 of all else.
-    pub fn place(self) -> usize
-        ensures { result ≡ told.unopened_place self }
-    {
+    fn place(self) -> usize {
         match self {
             NotOpened::Bad(start) => start,
             NotOpened::Full => 0,
@@ -149,25 +157,4 @@ pub fn removed_number(removed: Option<Book>) -> u64
     ensures { result ≡ told.removed_number removed }
 {
     removed.map_or(51, |_| 0)
-}
-
-// The head to keep after a sheet was to be added: the one before, where it is refused.
-pub fn after_adding(added: Result<Book, NotAdded>, was: Book) -> Book
-    ensures { result ≡ told.added_book added was }
-{
-    added.unwrap_or(was)
-}
-
-// The head to keep after a sheet was to be removed: the one before, where nothing is removed.
-pub fn after_removing(removed: Option<Book>, was: Book) -> Book
-    ensures { result ≡ told.removed_book removed was }
-{
-    removed.unwrap_or(was)
-}
-
-// The head of bytes that were to be opened, and the one before where they are refused.
-pub fn after_opening(opened: Result<Book, NotOpened>, was: Book) -> Book
-    ensures { result ≡ told.opened_book opened was }
-{
-    opened.unwrap_or(was)
 }

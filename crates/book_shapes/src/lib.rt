@@ -4,7 +4,7 @@
 ghost use Rattle.std.specs.Prelude.{◌≡◌};
 ghost use Rattle.book_shapes.specs.Shapes as specs;
 
-use book::{Added, Book, Found, Opened, Removed};
+use book::{Book, Found, NotAdded, NotOpened};
 
 // What becomes of a book: the head to keep is the one before, where it is refused.
 #[repr(C)]
@@ -25,48 +25,45 @@ pub struct GustFound {
     pub length: u64,
 }
 
-pub fn of_added(a: Added, was: Book) -> GustBooked
-    ensures { result ≡ specs.added_in a was }
+pub fn of_added(added: Result<Book, NotAdded>, was: Book) -> GustBooked
+    ensures { result ≡ specs.added_in added was }
 {
-    let kept = a.book(was);
     GustBooked {
-        number: a.number(),
-        path: a.path() as u64,
-        place: a.place() as u64,
-        book: kept,
+        number: answers::number(added),
+        path: answers::path(added) as u64,
+        place: answers::place(added) as u64,
+        book: added.unwrap_or(was),
     }
 }
 
-pub fn of_found(f: Found) -> GustFound
-    ensures { result ≡ specs.found_in f }
+pub fn of_found(found: Option<Found>) -> GustFound
+    ensures { result ≡ specs.found_in found }
 {
     GustFound {
-        number: f.number(),
-        start: f.start() as u64,
-        length: f.length() as u64,
+        number: book::found_number(found),
+        start: book::start(found) as u64,
+        length: book::length(found) as u64,
     }
 }
 
-pub fn of_removed(m: Removed, was: Book) -> GustBooked
-    ensures { result ≡ specs.removed_in m was }
+pub fn of_removed(removed: Option<Book>, was: Book) -> GustBooked
+    ensures { result ≡ specs.removed_in removed was }
 {
-    let kept = m.book(was);
     GustBooked {
-        number: m.number(),
+        number: book::removed_number(removed),
         path: 0,
         place: 0,
-        book: kept,
+        book: removed.unwrap_or(was),
     }
 }
 
-pub fn of_opened(o: Opened, was: Book) -> GustBooked
-    ensures { result ≡ specs.opened_in o was }
+pub fn of_opened(opened: Result<Book, NotOpened>, was: Book) -> GustBooked
+    ensures { result ≡ specs.opened_in opened was }
 {
-    let kept = o.book(was);
     GustBooked {
-        number: o.number(),
+        number: answers::number(opened),
         path: 0,
-        place: o.place() as u64,
-        book: kept,
+        place: answers::place(opened) as u64,
+        book: opened.unwrap_or(was),
     }
 }

@@ -1,6 +1,6 @@
 -- Rows chosen by their targets: those on one side of a dimension (`Picking`), a dimension that parts two of them (`Parting`), a relay beside f that
 -- is no target (`Beside`), and what stands in for f (`StoodIn`). Assumes nothing.
-use Rattle.std.specs.Prelude.{ℕ, zero, ◌+◌, ◌-◌, ◌^◌, ◌≤◌, ◌<◌, ◌≡◌, refl, ◌⊎◌, ◌≢◌, List, [], ◌∷◌, set}
+use Rattle.std.specs.Prelude.{ℕ, ◌+◌, ◌-◌, ◌^◌, ◌≤◌, ◌<◌, ◌≡◌, refl, ◌⊎◌, ◌≢◌, List, [], ◌∷◌}
 use Rattle.std.proofs.Common.{sym, ap, ◌∙◌, subst, inl, ⊎_elim, arith}
 use Rattle.std.specs.Int.Bits.{bit_xor, bit_and, bit_or}
 use Rattle.std.specs.Int.Count.{ones}

@@ -13,6 +13,8 @@ pub fn less(a: u64, b: u64) -> u64
     a ^ (a & b)
 }
 
+// Stays: the width beside the grid, here and in the crates above. The planners lend the grid on from call to call, at times to be read and at times to be written; a struct of the two
+// would be of two kinds, each made anew at every call.
 // The target of row j.
 pub fn target(grid: &[u64], w: usize, j: usize) -> u64
     requires { (2 ≤ w) × (j * w + w ≤ length grid.now) }

@@ -5,9 +5,10 @@ ghost use Rattle.std.specs.Prelude.{◌≡◌};
 ghost use Rattle.answers.specs.Told.{against};
 ghost use Rattle.answers.specs.Order.{first};
 ghost use Rattle.mesh.specs.Kinds.{kind_of};
+ghost use Rattle.dimacs.specs.declared.Fault.TheVariants.{Refused};
 ghost use Rattle.dimacs.specs.Says.{export_faults_in, fault_number, fault_place};
 
-use answers::{Checked, Refusal};
+use answers::{Reason, Refusal};
 use mesh::Mesh;
 
 // The most relays of a mesh that is exported: a cube of 11 dimensions has as many, and a two-level mesh of order 3.
@@ -31,11 +32,23 @@ pub enum Fault {
     Missing,
 }
 
-impl Fault {
+impl From<Refusal> for Fault {
+    ghost from_gives = { λ why r. r ≡ Refused why };
+
+    fn from(why: Refusal) -> Fault {
+        Self::Refused(why)
+    }
+}
+
+impl Reason for Fault {
+    ghost number_told = { fault_number };
+
+    ghost path_told = { λ why. 0 };
+
+    ghost place_told = { fault_place };
+
     // The specification's number.
-    pub fn number(self) -> u64
-        ensures { result ≡ fault_number self }
-    {
+    fn number(self) -> u64 {
         match self {
             Fault::Refused(why) => why.number(),
             Fault::Malformed(_) => 47,
@@ -45,10 +58,13 @@ impl Fault {
         }
     }
 
+    // Nothing is about a path.
+    fn path(self) -> usize {
+        0
+    }
+
     // The line that is told with 47 and 49; else 0.
-    pub fn place(self) -> usize
-        ensures { result ≡ fault_place self }
-    {
+    fn place(self) -> usize {
         match self {
             Fault::Refused(why) => why.place(),
             Fault::Malformed(line) => line,
@@ -60,14 +76,14 @@ impl Fault {
 }
 
 // What stands against a mesh as a file: 1, 52, 46.
-pub fn exported(mesh: Mesh) -> Checked
+pub fn exported(mesh: Mesh) -> Result<(), Refusal>
     ensures { against result ≡ first (export_faults_in (kind_of mesh.kind) mesh.size) }
 {
     if !mesh.planned() {
-        return Checked::Refused(mesh::unplanned(mesh));
+        return Err(mesh::unplanned(mesh));
     }
     if MOST_RELAYS < mesh::relays_in(mesh) {
-        return Checked::Refused(Refusal::TooLarge);
+        return Err(Refusal::TooLarge);
     }
-    Checked::Fine
+    Ok(())
 }

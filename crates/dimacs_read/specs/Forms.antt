@@ -1,14 +1,14 @@
 -- What the lines of a file come to by themselves (`Formed`): the first that is malformed, or the counts told; one line (`Stepped`), and a loop over them (`Forming`). Assumes nothing.
-use Rattle.std.specs.Prelude.{ℕ, zero, suc, ◌+◌, ◌-◌, ◌≤◌, ◌<◌, ◌≡◌, Bool, true, false, ◌&&◌, List, [], ◌∷◌, eqb, length, drop}
+use Rattle.std.specs.Prelude.{ℕ, suc, ◌+◌, ◌-◌, ◌≤◌, ◌<◌, ◌≡◌, Bool, true, false, ◌&&◌, List, [], ◌∷◌, eqb, length, drop}
 use Rattle.std.specs.Prelude.{Option, Some, None, Result, Ok, Err}
 use Rattle.std.proofs.Math.Path.{refl}
-use Rattle.std.proofs.Common.{sym, ap, ◌∙◌, subst, arith}
-use Rattle.scan.specs.Scan.{Spot, nowhere, at, pick}
+use Rattle.std.proofs.Common.{ap, ◌∙◌, subst, arith}
+use Rattle.scan.specs.Scan.{nowhere, at, pick}
 use Rattle.dimacs.specs.Text.{Edge, edge}
-use Rattle.dimacs.specs.Parse.{Line, comment, counts, link, malformed, Piece, piece, line_at, lines, lines_of}
+use Rattle.dimacs.specs.Parse.{Line, comment, counts, link, malformed, Piece, line_at, lines, lines_of}
 use Rattle.dimacs.specs.Says.{malformed_at, counted}
 use Rattle.dimacs.specs.Lines.{lines-all, lines_end, lines-piece, lines-broken}
-use Rattle.dimacs_take.specs.Takes.{Taken, line_of, piece_told}
+use Rattle.dimacs_take.specs.Takes.{Taken, line_of}
 use Rattle.dimacs_take.specs.declared.Line as code
 use Rattle.dimacs_take.specs.declared.Line.TheVariants.{Comment, Counts, Link}
 

@@ -1,31 +1,24 @@
 -- The links of a file marked line by line: one line (`Turned`), a loop over them (`Judging`), and what the file then comes to. Assumes nothing.
 use Rattle.std.specs.Prelude.{ℕ, zero, suc, ◌+◌, ◌-◌, ◌*◌, ◌/◌, ◌≤◌, ◌<◌, ◌≡◌, Bool, true, false, not, ◌&&◌, ◌≢◌, List, [], ◌∷◌, eqb, length, drop, replicate}
 use Rattle.std.specs.Prelude as rust
-use Rattle.std.specs.Prelude.{Some, None, Result, Ok, Err}
+use Rattle.std.specs.Prelude.{Some, None, Result, Ok, Err, ⊤}
 use Rattle.std.proofs.Math.Path.{refl}
-use Rattle.std.proofs.Common.{sym, ap, ap₂, ◌∙◌, subst, arith, eq-eqb, ne_eqb}
-use Rattle.std.proofs.Math.Option.{Option, none, some}
+use Rattle.std.proofs.Common.{sym, ap, ◌∙◌, subst, arith}
 use Rattle.scan.specs.Scan.{Spot, nowhere, at, pick, any}
 use Rattle.scan.specs.Laws.{true-false}
-use Rattle.answers.specs.Order.{first}
-use Rattle.answers.specs.Told.{against}
-use Rattle.answers.specs.declared.Checked.{Checked}
-use Rattle.answers.specs.declared.Checked.TheVariants as checked
-use Rattle.answers.specs.declared.Refusal.{Refusal}
 use Rattle.paths.specs.Mesh.{Mesh}
-use Rattle.mesh.specs.Kinds.{kind_of, mesh_of}
+use Rattle.mesh.specs.Kinds.{mesh_of}
 use Rattle.dimacs.specs.Text.{Edge, edge, link_count}
 use Rattle.dimacs.specs.Parse.{Line, comment, counts, link, malformed, line_at, lines, lines_of}
-use Rattle.dimacs.specs.Says.{export_faults_in, malformed_at, counted, is_link, stands, wrong_at, edges_from, edges_of, missing, or_malformed, or_wrong, or_refused, judged, read_of, Verdict, yes}
+use Rattle.dimacs.specs.Says.{is_link, stands, wrong_at, edges_from, edges_of, missing, or_wrong, Verdict, yes}
 use Rattle.dimacs.specs.Lines.{lines-all, lines_end, lines-broken}
-use Rattle.dimacs.specs.Needs.{Exported, export_fine}
 use Rattle.dimacs_size.specs.Sizes.{Rows}
 use Rattle.dimacs_marks.specs.Marks.{Marked, Marks, marked-none, lacks_any, lacking-missing}
-use Rattle.dimacs.specs.declared.Fault.TheVariants.{Refused, Malformed, WrongCounts, WrongLink, Missing}
+use Rattle.dimacs.specs.declared.Fault.TheVariants.{WrongCounts, WrongLink, Missing}
 use Rattle.dimacs_take.specs.Takes.{Taken}
 use Rattle.dimacs_take.specs.declared.Line as code
 use Rattle.dimacs_take.specs.declared.Line.TheVariants.{Comment, Counts, Link}
-use Rattle.dimacs_read.specs.Forms.{Formed, next_is, one_less}
+use Rattle.dimacs_read.specs.Forms.{next_is, one_less}
 
 -- ---- what the definitions say, line by line
 
@@ -258,55 +251,3 @@ module _ {k n relays links : ℕ} (r : Rows k n relays links) (text now : List �
 
   pub links_yes : {b : Bool} → b ≡ any (lacks_any k n links now) 0 relays → b ≡ false → yes ≡ links_of k n text
   links_yes f z = ap (λ (x : Bool). pick x (Err Missing) yes) (sym z) ∙ by_marks f
-
-module _ {k n relays links : ℕ} (r : Rows k n relays links) (a b : ℕ) (text : List ℕ) where
-  pub other-relays : a ≢ relays → (Err WrongCounts) ≡ counted_of k n a b text
-  other-relays ne =
-      ap (λ (x : Bool). pick (x && eqb b (link_count (mesh_of k n))) (links_of k n text) (Err WrongCounts)) (sym (ne_eqb a (mesh_of k n).relays (λ e. ne (e ∙ sym r.relays_are))))
-
-  links_are : relays * links / 2 ≡ link_count (mesh_of k n)
-  links_are = ap₂ (λ (x y : ℕ). x * y / 2) r.relays_are r.links_are
-
-  by_relays : a ≡ relays → pick (eqb b (link_count (mesh_of k n))) (links_of k n text) (Err WrongCounts) ≡ counted_of k n a b text
-  by_relays e = ap (λ (x : Bool). pick (x && eqb b (link_count (mesh_of k n))) (links_of k n text) (Err WrongCounts)) (sym (eq-eqb a (mesh_of k n).relays (e ∙ r.relays_are)))
-
-  pub other-links : a ≡ relays → b ≢ relays * links / 2 → (Err WrongCounts) ≡ counted_of k n a b text
-  other-links e ne =
-      ap (λ (x : Bool). pick x (links_of k n text) (Err WrongCounts)) (sym (ne_eqb b (link_count (mesh_of k n)) (λ z. ne (z ∙ sym links_are)))) ∙ by_relays e
-
-  pub counts-right : {v : Verdict} → a ≡ relays → b ≡ relays * links / 2 → v ≡ links_of k n text → v ≡ counted_of k n a b text
-  counts-right e f z =
-      z ∙ ap (λ (x : Bool). pick x (links_of k n text) (Err WrongCounts)) (sym (eq-eqb b (link_count (mesh_of k n)) (f ∙ links_are))) ∙ by_relays e
-
-module _ (k n : ℕ) (text : List ℕ) {c : Checked} (e : against c ≡ first (export_faults_in (kind_of k) n)) where
-  pub read_refused : {why : Refusal} → c ≡ checked.Refused why → Err (Refused why) ≡ read_of k n text
-  read_refused z = ap (λ (o : Option Refusal). or_refused o (judged (mesh_of k n) (lines_of text))) (sym (ap against z) ∙ e)
-
-  module _ (z : c ≡ checked.Fine) where
-    pub read_exported : Exported k n
-    read_exported = export_fine k n (sym e ∙ ap against z)
-
-    as_judged : judged (mesh_of k n) (lines_of text) ≡ read_of k n text
-    as_judged = ap (λ (o : Option Refusal). or_refused o (judged (mesh_of k n) (lines_of text))) (sym (ap against z) ∙ e)
-
-    abbrev after : Bool → Verdict
-    after b = pick b (links_of k n text) (Err WrongCounts)
-
-    module _ {f : Result (rust.Option (ℕ × ℕ)) ℕ} (g : Formed (lines_of text) f) where
-      formed : {x : Result (rust.Option (ℕ × ℕ)) ℕ} → f ≡ x → Formed (lines_of text) x
-      formed {x} y = subst (Formed (lines_of text)) y g
-
-      pub read_malformed : {line : ℕ} → f ≡ Err line → Err (Malformed line) ≡ read_of k n text
-      read_malformed {line} y = ap (λ (s : Spot). or_malformed s (after (counted (mesh_of k n).relays (link_count (mesh_of k n)) (lines_of text)))) (sym (formed y)) ∙ as_judged
-
-      pub read_headless : f ≡ Ok None → (Err WrongCounts) ≡ read_of k n text
-      read_headless y =
-          let p = formed y in
-          ap after (sym (p.1 (mesh_of k n).relays (link_count (mesh_of k n))))
-          ∙ ap (λ (s : Spot). or_malformed s (after (counted (mesh_of k n).relays (link_count (mesh_of k n)) (lines_of text)))) (sym p.0) ∙ as_judged
-
-      pub read-counted : {a b : ℕ} {v : Verdict} → f ≡ Ok (Some (a, b)) → v ≡ counted_of k n a b text → v ≡ read_of k n text
-      read-counted {a} {b} y w =
-          let p = formed y in
-          w ∙ ap after (sym (p.1 (mesh_of k n).relays (link_count (mesh_of k n))))
-          ∙ ap (λ (s : Spot). or_malformed s (after (counted (mesh_of k n).relays (link_count (mesh_of k n)) (lines_of text)))) (sym p.0) ∙ as_judged

@@ -6,7 +6,6 @@ ghost use Rattle.dimacs_size.specs.Sizes.{Rows};
 ghost use Rattle.dimacs_read.specs.Turns as turns;
 
 use crate::form::formed;
-use answers::Checked;
 use dimacs::Fault;
 use dimacs_take::Line;
 use mesh::Mesh;
@@ -75,10 +74,7 @@ fn counted(mesh: Mesh, n: u64, m: u64, text: &[u8]) -> Result<(), Fault>
 pub fn read(mesh: Mesh, text: &[u8]) -> Result<(), Fault>
     ensures { result ≡ read_of mesh.kind mesh.size text.now }
 {
-    let export = dimacs::exported(mesh);
-    if let Checked::Refused(why) = export {
-        return Err(Fault::Refused(why));
-    }
+    dimacs::exported(mesh)?;
     match formed(text) {
         Err(line) => Err(Fault::Malformed(line)),
         Ok(None) => Err(Fault::WrongCounts),

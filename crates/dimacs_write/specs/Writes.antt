@@ -1,14 +1,12 @@
 -- What the writer owes at each of its ends. Assumes nothing.
-use Rattle.std.specs.Prelude.{ℕ, ◌+◌, ◌*◌, ◌/◌, ◌≤◌, ◌<◌, ◌≡◌, Bool, ltb, length, drop, set}
+use Rattle.std.specs.Prelude.{ℕ, ◌+◌, ◌*◌, ◌/◌, ◌≤◌, ◌<◌, ◌≡◌, Bool, ltb, length, drop, set, Result, Ok, Err, ⊤}
 use Rattle.std.proofs.Common.{sym, ap₂, ◌∙◌, arith, lt-ltb, le-ltb}
-use Rattle.std.proofs.Math.Path.{ap}
+use Rattle.std.proofs.Math.Path.{ap, refl}
 use mathlib.Core.List.{List, [], ◌∷◌, ◌++◌}
 use Rattle.std.proofs.Math.Option.{none, some}
 use Rattle.answers.specs.Order.{first}
 use Rattle.answers.specs.Pairs.{lent_refused, lent-short, lent-fine}
 use Rattle.answers.specs.Told.{tell, against}
-use Rattle.answers.specs.declared.Checked.{Checked}
-use Rattle.answers.specs.declared.Checked.TheVariants as checked
 use Rattle.answers.specs.declared.Refusal.{Refusal}
 use Rattle.answers.specs.declared.Refusal.TheVariants.{NoRoom}
 use Rattle.decimal.specs.Write.{Put, put_long, put_then, put_byte, put_as}
@@ -95,27 +93,11 @@ module _ {k n relays links : ℕ} (r : Rows k n relays links) where
       pub graph_put : {q : ℕ} {now : List ℕ} → Put mid p (edges_text (edges (mesh_of k n))) q now → Put was 0 (graph_text (mesh_of k n)) q now
       graph_put v = put_as as_graph (put_then w v)
 
--- ---- what is told and left
+-- ---- what is left
 
-module _ (k n : ℕ) (out : List ℕ) where
-  abbrev text : List ℕ
-  text = graph_text (mesh_of k n)
-
-  abbrev short : Bool
-  short = ltb (length out) (length text)
-
-  module _ {r : Checked} (e : against r ≡ first (export_faults_in (kind_of k) n)) where
-    pub write_exported : r ≡ checked.Fine → Exported k n
-    write_exported f = export_fine k n (sym e ∙ ap against f)
-
-    pub write_refused : {why : Refusal} → r ≡ checked.Refused why → (tell (some why) 0 0 ≡ write_told k n out) × (out ≡ write_leaves k n out)
-    write_refused f = lent_refused (export_faults_in (kind_of k) n) short (length text) out (text ++ drop (length text) out) e f
-
-    pub write_short : {bytes : ℕ} → r ≡ checked.Fine → bytes ≡ length text → length out < bytes → (tell (some NoRoom) 0 0 ≡ write_told k n out) × (out ≡ write_leaves k n out)
-    write_short f b h = lent-short (export_faults_in (kind_of k) n) short (length text) out (text ++ drop (length text) out) e f (lt-ltb (length out) (length text) (omega arith))
-
-    pub write_fine : {bytes p : ℕ} {now : List ℕ} → r ≡ checked.Fine → bytes ≡ length text → bytes ≤ length out → Put out 0 text p now → (tell none 0 p ≡ write_told k n out) × (now ≡ write_leaves k n out)
-    write_fine f b h w =
-        let (told_long, left) = put_front (omega arith) w in
-        let (t, l) = lent-fine (export_faults_in (kind_of k) n) short (length text) out (text ++ drop (length text) out) e f (le-ltb (length out) (length text) (omega arith)) in
-        (ap (λ (x : ℕ). tell none 0 x) told_long ∙ t, left ∙ l)
+pub write_left : (k n : ℕ) (out : List ℕ) {bytes p : ℕ} {now : List ℕ} → none ≡ first (export_faults_in (kind_of k) n) → bytes ≡ length (graph_text (mesh_of k n)) → bytes ≤ length out
+    → Put out 0 (graph_text (mesh_of k n)) p now → now ≡ write_leaves k n out
+write_left k n out e b h w =
+    let text : List ℕ = graph_text (mesh_of k n) in
+    let (told_long, left) = put_front (omega arith) w in
+    left ∙ (lent-fine (export_faults_in (kind_of k) n) (ltb (length out) (length text)) (length text) out (text ++ drop (length text) out) {T = ⊤} {r = Ok tt} e refl (le-ltb (length out) (length text) (omega arith))).1

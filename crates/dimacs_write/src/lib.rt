@@ -10,7 +10,7 @@ ghost use Rattle.dimacs.specs.Needs.{Exported, Rowed, Linking, link_of};
 ghost use Rattle.dimacs.specs.Says.{write_told, write_leaves};
 ghost use Rattle.dimacs_size.specs.Sizes.{Rows};
 
-use answers::{Answer, Checked, Refusal};
+use answers::Refusal;
 use mesh::Mesh;
 
 // A line `e 1 2` from a place on; the place after it.
@@ -77,17 +77,14 @@ fn put_graph(mesh: Mesh, out: &mut [u8]) -> usize
 
 // Writes a mesh as a DIMACS edge file at the front of `out`, and answers how many bytes that is: of the mesh of kind 1 and size 2 it is `p edge 4 4`, `e 1 2`, `e 1 3`, `e 2 4` and
 // `e 3 4`, each with a line end, and 35. What stands after the text stays. Refuses with 1, 52, 46, and with 8 where `out` is shorter than the text; then `out` stays as it was.
-pub fn write(mesh: Mesh, out: &mut [u8]) -> Answer
+pub fn write(mesh: Mesh, out: &mut [u8]) -> Result<u64, Refusal>
     ensures result_value { answer_told result ≡ write_told mesh.kind mesh.size out.old }
     ensures out_after { out.new ≡ write_leaves mesh.kind mesh.size out.old }
 {
-    let export = dimacs::exported(mesh);
-    if let Checked::Refused(why) = export {
-        return Answer::Refused(why);
-    }
+    dimacs::exported(mesh)?;
     let bytes = dimacs_size::bytes(mesh);
     if out.len() < bytes {
-        return Answer::Refused(Refusal::NoRoom);
+        return Err(Refusal::NoRoom);
     }
-    Answer::Value(put_graph(mesh, out) as u64)
+    Ok(put_graph(mesh, out) as u64)
 }

@@ -92,6 +92,7 @@ pub fn gather<'b>(
     }
 }
 
+// Stays: a function beside `gather`. The two differ in the call in their middle, which is lent four columns; a closure over these would ask for a contract longer than the function.
 // The columns of a bundle's paths, and what comes back where there is room for so many entries.
 pub fn gather_bundle<'b>(
     mesh: Mesh,

@@ -1,13 +1,12 @@
 -- An answer lies in the buffer that it was written to (`said_within`). Assumes nothing.
-use Rattle.std.specs.Prelude.{ℕ, ◌≤◌, ◌≡◌, Bool, true, false, List, ltb, length, drop}
+use Rattle.std.specs.Prelude.{ℕ, ◌≤◌, ◌≡◌, Bool, true, false, List, ltb, length, drop, Result, Ok}
+use Rattle.answers.specs.declared.Refusal.{Refusal}
 use Rattle.std.proofs.Common.{sym, ap, ◌∙◌, arith, length-append}
 use Rattle.answers.specs.Told.{number_of, value_of, answer_told}
-use Rattle.answers.specs.declared.Answer.{Answer}
-use Rattle.answers.specs.declared.Answer.TheVariants as answer
 use Rattle.reply.specs.Says.{Answered, AnsweredIn, reply_room}
 
 -- the bytes that were said lie in the buffer
-pub said_within : (text was now : List ℕ) (r : Answer) {v : ℕ} → length now ≡ length was → Answered text was r now → r ≡ answer.Value v → v ≤ length now
+pub said_within : (text was now : List ℕ) (r : Result ℕ Refusal) {v : ℕ} → length now ≡ length was → Answered text was r now → r ≡ Ok v → v ≤ length now
 said_within text was now r {v} long a e = go (ltb (length was) reply_room) a
   where
     go : (b : Bool) → AnsweredIn b text was r now → v ≤ length now

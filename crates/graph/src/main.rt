@@ -2,47 +2,35 @@
 // is answered `refused 10 0`, a mesh that is not exported `refused N 0`.
 #![tactic(auto)]
 
-use answers::{Answer, Refusal};
-use graph_line::Named;
-use mesh::Mesh;
+use answers::Refusal;
 use std::io;
 
-// The text of a mesh, or of why there is none.
-fn export(mesh: Mesh, out: &mut [u8]) -> Answer {
-    match dimacs_write::write(mesh, out) {
-        Answer::Value(bytes) => Answer::Value(bytes),
-        Answer::Refused(why) => line_write::write_refusal(why, out),
-    }
-}
-
-fn answer(text: &[u8], out: &mut [u8]) -> Answer {
-    match graph_line::mesh_named(text) {
-        Named::Unreadable => line_write::write_refusal(Refusal::Unreadable, out),
-        Named::Of(kind, size) => export(
-            Mesh {
-                kind: kind,
-                size: size,
-            },
-            out,
-        ),
+// The text of the mesh that a line names, or of why there is none.
+fn answer(text: &[u8], out: &mut [u8]) -> Result<u64, Refusal> {
+    let written = match graph_line::mesh_named(text) {
+        Some(mesh) => dimacs_write::write(mesh, out),
+        None => Err(Refusal::Unreadable),
+    };
+    match written {
+        Ok(bytes) => Ok(bytes),
+        Err(why) => line_write::write_refusal(why, out),
     }
 }
 
 // Writes the first bytes of a slice.
 fn say(to: &impl Print, out: &[u8], bytes: u64) -> io::Result<()> {
-    let n = bytes as usize;
-    if n <= out.len() {
-        to.write_all(&out[..n])?;
+    match out.get(..bytes as usize) {
+        Some(said) => to.write_all(said),
+        None => Ok(()),
     }
-    Ok(())
 }
 
 fn main(rt: HostRuntime) -> io::Result<()> {
     let mut text = [0u8; line::MOST_BYTES];
     let mut out = [0u8; dimacs::MOST_BYTES];
     let n = input::read_line(&mut rt.stdin(), &mut text)?.bytes;
-    if let Answer::Value(said) = answer(&text[..n], &mut out) {
-        say(&rt, &out, said)?;
+    match answer(&text[..n], &mut out) {
+        Ok(said) => say(&rt, &out, said),
+        Err(_) => Ok(()),
     }
-    Ok(())
 }

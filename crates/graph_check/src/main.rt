@@ -2,65 +2,34 @@
 // else `refused N P` with the number and the line. What is no such line is answered `refused 10 0`, an input of more than 262,144 bytes `refused 8 0`.
 #![tactic(auto)]
 
-use graph_line::Named;
-use mesh::Mesh;
-use scan::Spot;
+use answers::{Reason, Refusal};
+use dimacs::Fault;
 use std::io;
 
 // The most bytes of the input, its first line included.
 const MOST: usize = 262144;
 
-// What is said: 0 for yes, or a number and a line.
-#[derive(Clone, Copy)]
-struct Said {
-    number: u64,
-    line: u64,
-}
-
-// The file after the first line, against the mesh.
-fn checked(mesh: Mesh, file: &[u8]) -> Said {
-    let verdict = dimacs_read::read(mesh, file);
-    Said {
-        number: verdict.number(),
-        line: verdict.place() as u64,
-    }
-}
-
-fn judged(text: &[u8]) -> Said {
+// What stands against the file after the first line, which is to be the mesh that this line names.
+fn judged(text: &[u8]) -> Result<(), Fault> {
     if MOST < text.len() {
-        return Said { number: 8, line: 0 };
+        return Err(Fault::Refused(Refusal::NoRoom));
     }
-    let Named::Of(kind, size) = graph_line::mesh_named(text) else {
-        return Said {
-            number: 10,
-            line: 0,
-        };
-    };
-    let Spot::At(next) = dimacs_take::skip(text, 0) else {
-        return Said {
-            number: 10,
-            line: 0,
-        };
-    };
-    checked(
-        Mesh {
-            kind: kind,
-            size: size,
-        },
-        &text[next..],
-    )
+    let mesh = graph_line::mesh_named(text).ok_or(Refusal::Unreadable)?;
+    let next = dimacs_take::skip(text, 0).ok_or(Refusal::Unreadable)?;
+    dimacs_read::read(mesh, &text[next..])
 }
 
-fn say(to: &impl Print, said: Said) -> io::Result<()> {
-    if said.number == 0 {
+fn say(to: &impl Print, judged: Result<(), Fault>) -> io::Result<()> {
+    let Err(why) = judged else {
         return to.write_all(b"yes\n");
-    }
+    };
+    // Stays: put_refused writes it, whose contract says the bytes; of what print! writes no contract speaks.
     let mut out = [0u8; 50];
-    let n = graph_line::put_refused(said.number, said.line, &mut out);
-    if n <= out.len() {
-        to.write_all(&out[..n])?;
+    let n = graph_line::put_refused(why.number(), why.place() as u64, &mut out);
+    match out.get(..n) {
+        Some(said) => to.write_all(said),
+        None => Ok(()),
     }
-    Ok(())
 }
 
 fn main(rt: HostRuntime) -> io::Result<()> {

@@ -8,28 +8,12 @@ use mesh::Mesh;
 pub fn gust_next_hop(kind: u64, size: u64, source: u64, target: u64, out: &mut [u8]) -> u64
     ensures { Stepped (kind_of kind) size source target out.old result out.new }
 {
-    region::next_hop(
-        Mesh {
-            kind: kind,
-            size: size,
-        },
-        source,
-        target,
-        out,
-    )
+    region::next_hop(Mesh { kind, size }, source, target, out)
 }
 
 // `region::plan`.
 pub fn gust_plan(kind: u64, size: u64, source: u64, targets: &[u8], out: &mut [u8]) -> u64
     ensures { Planned (plan_code kind size source targets.now out.old) kind size source (targets_in targets.now) out.old result out.new }
 {
-    region::plan(
-        Mesh {
-            kind: kind,
-            size: size,
-        },
-        source,
-        targets,
-        out,
-    )
+    region::plan(Mesh { kind, size }, source, targets, out)
 }

@@ -10,5 +10,5 @@ use shapes::GustArrival;
 pub fn gust_arrive(was: Record, number: u16) -> GustArrival
     ensures { result ≡ specs.arrival_in (arrival was number) }
 {
-    shapes::of_arrival(arrivals::arrive(was, number))
+    shapes::of_arrival(was, arrivals::arrive(was, number))
 }

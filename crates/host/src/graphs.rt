@@ -12,29 +12,17 @@ pub fn gust_write_graph(kind: u64, size: u64, out: &mut [u8]) -> GustAnswer
     ensures value { result ≡ answer_in (write_told kind size out.old) }
     ensures out_after { out.new ≡ write_leaves kind size out.old }
 {
-    shapes::of_answer(dimacs_write::write(
-        Mesh {
-            kind: kind,
-            size: size,
-        },
-        out,
-    ))
+    shapes::of_answer(dimacs_write::write(Mesh { kind, size }, out))
 }
 
 // `dimacs_read::read`: 0 for yes; the place is the line.
 pub fn gust_read_graph(kind: u64, size: u64, text: &[u8]) -> GustVerdict
     ensures { result ≡ graph_in (read_of kind size text.now) }
 {
-    let verdict = dimacs_read::read(
-        Mesh {
-            kind: kind,
-            size: size,
-        },
-        text,
-    );
+    let verdict = dimacs_read::read(Mesh { kind, size }, text);
     GustVerdict {
-        number: verdict.number(),
+        number: answers::number(verdict),
         path: 0,
-        place: verdict.place() as u64,
+        place: answers::place(verdict) as u64,
     }
 }

@@ -11,44 +11,28 @@ ghost use Rattle.shapes.specs.Shapes as specs;
 ghost use Rattle.host.specs.Says.{PlannedIn, SurvivedIn, WroteIn, ReadIn};
 
 use mesh::Mesh;
+use requests::Facts;
 use shapes::{GustAnswer, GustFacts, GustReading, GustVerdict};
 
 // The facts of a size: of kind 2 and size 3 there are 2,048 relays with 4 links each, the longest path has 42 hops and takes 43 places. Refuses with 1.
 pub fn gust_facts(kind: u64, size: u64) -> GustFacts
     ensures { result ≡ specs.facts_in (kind_of kind) size }
 {
-    shapes::of_facts(Mesh {
-        kind: kind,
-        size: size,
-    })
+    shapes::of_facts(Mesh { kind, size })
 }
 
 // `mesh::linked`: the value is 1 for yes.
 pub fn gust_linked(kind: u64, size: u64, source: u64, target: u64) -> GustAnswer
     ensures { result ≡ specs.yes_no_in (linked_told (kind_of kind) size source target) }
 {
-    shapes::of_yes_no(mesh::linked(
-        Mesh {
-            kind: kind,
-            size: size,
-        },
-        source,
-        target,
-    ))
+    shapes::of_yes_no(mesh::linked(Mesh { kind, size }, source, target))
 }
 
 // `mesh::distance`: the value is the distance.
 pub fn gust_distance(kind: u64, size: u64, source: u64, target: u64) -> GustAnswer
     ensures { result ≡ specs.answer_in (distance_told (kind_of kind) size source target) }
 {
-    shapes::of_answer(mesh::distance(
-        Mesh {
-            kind: kind,
-            size: size,
-        },
-        source,
-        target,
-    ))
+    shapes::of_answer(mesh::distance(Mesh { kind, size }, source, target))
 }
 
 // `mesh::route`: the value is the hops.
@@ -56,15 +40,7 @@ pub fn gust_route(kind: u64, size: u64, source: u64, target: u64, out: &mut [u64
     ensures value { result ≡ specs.answer_in (route_told (kind_of kind) size source target out.old) }
     ensures out_after { out.new ≡ route_leaves (kind_of kind) size source target out.old }
 {
-    shapes::of_answer(mesh::route(
-        Mesh {
-            kind: kind,
-            size: size,
-        },
-        source,
-        target,
-        out,
-    ))
+    shapes::of_answer(mesh::route(Mesh { kind, size }, source, target, out))
 }
 
 // `planner::plan`: the value is how many paths.
@@ -78,16 +54,7 @@ pub fn gust_fan(
 ) -> GustAnswer
     ensures { PlannedIn (planned_against (kind_of kind) size source targets.now (short (mesh_of kind size) (length targets.now) (length places.old) (length counts.old))) (length targets.now) (width (mesh_of kind size)) (Fan (mesh_of kind size) source targets.now) places.old counts.old result places.new counts.new }
 {
-    let planned = planner::plan(
-        Mesh {
-            kind: kind,
-            size: size,
-        },
-        source,
-        targets,
-        places,
-        counts,
-    );
+    let planned = planner::plan(Mesh { kind, size }, source, targets, places, counts);
     shapes::of_checked(planned, targets.len() as u64)
 }
 
@@ -102,12 +69,9 @@ pub fn gust_bundle(
 ) -> GustAnswer
     ensures { PlannedIn (bundle_against (kind_of kind) size source target (bundle_short (mesh_of kind size) (length places.old) (length counts.old))) (mesh_of kind size).links (width (longer (mesh_of kind size))) (Bundle (mesh_of kind size) source target) places.old counts.old result places.new counts.new }
 {
-    let mesh = Mesh {
-        kind: kind,
-        size: size,
-    };
+    let mesh = Mesh { kind, size };
     let planned = bundle::plan(mesh, source, target, places, counts);
-    shapes::of_checked(planned, mesh.links().value())
+    shapes::of_checked(planned, answers::value(mesh.links()))
 }
 
 // `judge::judge`.
@@ -121,16 +85,7 @@ pub fn gust_judge(
 ) -> GustVerdict
     ensures { result ≡ specs.verdict_in (judge_told (kind_of kind) size source targets.now places.now counts.now false) }
 {
-    shapes::of_verdict(judge::judge(
-        Mesh {
-            kind: kind,
-            size: size,
-        },
-        source,
-        targets,
-        places,
-        counts,
-    ))
+    shapes::of_verdict(judge::judge(Mesh { kind, size }, source, targets, places, counts))
 }
 
 // `judge::judge_bundle`.
@@ -144,16 +99,7 @@ pub fn gust_judge_bundle(
 ) -> GustVerdict
     ensures { result ≡ specs.verdict_in (bundle_told (kind_of kind) size source target places.now counts.now false) }
 {
-    shapes::of_verdict(judge::judge_bundle(
-        Mesh {
-            kind: kind,
-            size: size,
-        },
-        source,
-        target,
-        places,
-        counts,
-    ))
+    shapes::of_verdict(judge::judge_bundle(Mesh { kind, size }, source, target, places, counts))
 }
 
 // `survivors::survivors`: the value is how many paths are whole.
@@ -175,10 +121,7 @@ pub fn gust_survivors(
     ensures { SurvivedIn (fan_asked (kind_of kind) size source targets.now) places.now counts.now zones.now (failed stopped.now cuts.now) ends.old hops.old wholes.old sites.old result ends.new hops.new wholes.new sites.new }
 {
     shapes::of_tally(survivors::survivors(
-        Mesh {
-            kind: kind,
-            size: size,
-        },
+        Mesh { kind, size },
         source,
         targets,
         places,
@@ -212,10 +155,7 @@ pub fn gust_bundle_survivors(
     ensures { SurvivedIn (bundle_asked (kind_of kind) size source target) places.now counts.now zones.now (failed stopped.now cuts.now) ends.old hops.old wholes.old sites.old result ends.new hops.new wholes.new sites.new }
 {
     shapes::of_tally(survivors::bundle_survivors(
-        Mesh {
-            kind: kind,
-            size: size,
-        },
+        Mesh { kind, size },
         source,
         target,
         places,
@@ -243,10 +183,7 @@ pub fn gust_write_sheet(
     ensures { WroteIn kind size source targets.now places.now counts.now out.old result out.new }
 {
     shapes::of_written(sheet_write::write(
-        Mesh {
-            kind: kind,
-            size: size,
-        },
+        Mesh { kind, size },
         source,
         targets,
         places,

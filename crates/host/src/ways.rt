@@ -20,15 +20,5 @@ pub fn gust_way_round(
 ) -> GustAnswer
     ensures { RoundedIn (round_against (kind_of kind) size source target stopped.now (round_short (mesh_of kind size) (length room.old) (length out.old))) (avoiding (mesh_of kind size) stopped.now) source target room.old out.old result room.new out.new }
 {
-    shapes::of_answer(around::way_round(
-        Mesh {
-            kind: kind,
-            size: size,
-        },
-        source,
-        target,
-        stopped,
-        room,
-        out,
-    ))
+    shapes::of_answer(around::way_round(Mesh { kind, size }, source, target, stopped, room, out))
 }

@@ -21,10 +21,7 @@ pub fn gust_write_zoned_sheet(
 {
     shapes::of_written(sheet_write::write_zoned(
         version,
-        Mesh {
-            kind: kind,
-            size: size,
-        },
+        Mesh { kind, size },
         source,
         targets,
         places,

@@ -64,6 +64,7 @@ pub fn read_line<R: Read>(from: &mut R, buf: &mut [u8]) -> io::Result<Input>
     })
 }
 
+// Stays: beside `read_line`, since one function over a test of what came would have to say in every clause what the test answered.
 // Reads until the input ends or the room is full. What came is what the reader had. A read fails only while there is room: what had come before it is what the
 // reader lost.
 pub fn read_all<R: Read>(from: &mut R, buf: &mut [u8]) -> io::Result<Input>

@@ -8,6 +8,7 @@ use answers::Refusal;
 use judge_rows::{Mode, Rules};
 use mesh::Mesh;
 
+// Stays: a function beside `judge_with`. What the two share is `first_finding`; what is checked, the room, the width and the targets are asked of the mesh by other calls.
 // The judge of bundles, for a caller that is lent slices besides, of which one may be lacking: that is refused 8 too.
 pub fn judge_bundle_with(
     mesh: Mesh,

@@ -28,6 +28,8 @@ pub struct Rules {
 }
 
 // What stands at place p of path i, where a path takes w places.
+// Stays: rules, places and counts as parameters of their own, here and above. An `ensures` reads a struct of slices at two moments (`rows.entry.places.now`), so that in one every contract
+// would grow by more than the lists of parameters shrink.
 pub fn relay(w: usize, places: &[u64], i: usize, p: usize) -> u64
     requires { i * w + p < length places.now }
     ensures { result ≡ fan.relay w places.now i p }

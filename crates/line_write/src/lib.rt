@@ -7,7 +7,7 @@ ghost use Rattle.scan.specs.Scan.{any};
 ghost use Rattle.line.specs.Written as specs;
 ghost use Rattle.line_write.specs.Rooms.{Roomy, Front};
 
-use answers::{Answer, Refusal};
+use answers::{Reason, Refusal};
 
 // The bytes that are enough for every refusal.
 const REFUSAL_ROOM: usize = 50;
@@ -53,27 +53,33 @@ fn put_fan(out: &mut [u8], k: usize, w: usize, places: &[u64], counts: &[u64]) -
 // Writes `fan k` and the k paths that stand in `places` and `counts`, each in w places, as text at the front of `out`, and answers how many bytes: a line for
 // each path with its hops and then all its relays. Of the paths 0, 2, 3 and 0, 1 it is `fan 2`, `2 0 2 3` and `1 0 1`. Refuses with 8 where there are fewer
 // than k counts, k * w places or `fan_room` bytes, or where a path is longer than its places; a refusal changes nothing.
-pub fn write_fan(k: usize, w: usize, places: &[u64], counts: &[u64], out: &mut [u8]) -> Answer
+pub fn write_fan(
+    k: usize,
+    w: usize,
+    places: &[u64],
+    counts: &[u64],
+    out: &mut [u8],
+) -> Result<u64, Refusal>
     ensures told { answer_told result ≡ specs.write_told (specs.wanting k w places.now counts.now (length out.old)) (specs.fan_text k w places.now counts.now) }
     ensures left { out.new ≡ specs.write_leaves (specs.wanting k w places.now counts.now (length out.old)) (specs.fan_text k w places.now counts.now) out.old }
 {
     if wanting(k, w, places, counts, out.len()) {
-        return Answer::Refused(Refusal::NoRoom);
+        return Err(Refusal::NoRoom);
     }
-    Answer::Value(put_fan(out, k, w, places, counts) as u64)
+    Ok(put_fan(out, k, w, places, counts) as u64)
 }
 
 // Writes `refused N P`, the number and the place of a refusal, as text at the front of `out`, and answers how many bytes: for a target at place 1 that is the
 // source it is `refused 6 1`. Refuses with 8 where there are fewer than 50 bytes; a refusal changes nothing.
-pub fn write_refusal(why: Refusal, out: &mut [u8]) -> Answer
+pub fn write_refusal(why: Refusal, out: &mut [u8]) -> Result<u64, Refusal>
     ensures told { answer_told result ≡ specs.write_told (ltb (length out.old) (specs.refused_room)) (specs.refused_text why) }
     ensures left { out.new ≡ specs.write_leaves (ltb (length out.old) (specs.refused_room)) (specs.refused_text why) out.old }
 {
     if out.len() < REFUSAL_ROOM {
-        return Answer::Refused(Refusal::NoRoom);
+        return Err(Refusal::NoRoom);
     }
     let number = why.number();
     let place = why.place() as u64;
     let numbers = [number, place];
-    Answer::Value(line_put::put_head(out, b"refused", &numbers) as u64)
+    Ok(line_put::put_head(out, b"refused", &numbers) as u64)
 }

@@ -3,11 +3,10 @@
 // count), and the columns, all 9 before, as they are afterwards.
 ghost use Rattle.std.specs.Prelude.{◌≤◌, ◌<◌, length, IfOk};
 
-use judge::Verdict;
+use judge::Fault;
 use mesh::Mesh;
 use script::{item, put, put_first, run, text};
 use std::io;
-use survivors::Tally;
 
 // How many places the columns have.
 #[derive(Clone, Copy)]
@@ -17,19 +16,12 @@ struct Room {
     wholes: usize,
 }
 
-fn put_verdict(to: &impl Print, v: Verdict) -> io::Result<()> {
-    text(to, b"judge")?;
-    put(to, v.number())?;
-    put(to, v.path() as u64)?;
-    put(to, v.place() as u64)
-}
-
-fn put_tally(to: &impl Print, t: Tally) -> io::Result<()> {
-    text(to, b" survivors")?;
-    put(to, t.number())?;
-    put(to, t.path() as u64)?;
-    put(to, t.place() as u64)?;
-    put(to, t.whole())
+// Number, path and place of what the judge says, after a name.
+fn put_judged<T: Copy>(to: &impl Print, name: &[u8], judged: Result<T, Fault>) -> io::Result<()> {
+    text(to, name)?;
+    put(to, answers::number(judged))?;
+    put(to, answers::path(judged) as u64)?;
+    put(to, answers::place(judged) as u64)
 }
 
 // The survivors, into a part of each column, and the columns.
@@ -47,9 +39,9 @@ fn tell(
     hops: &mut [u64],
     wholes: &mut [u64],
 ) -> io::Result<()> {
-    let a = script::least(room.ends, ends.len());
-    let b = script::least(room.hops, hops.len());
-    let c = script::least(room.wholes, wholes.len());
+    let a = room.ends.min(ends.len());
+    let b = room.hops.min(hops.len());
+    let c = room.wholes.min(wholes.len());
     let t = survivors::three(
         mesh,
         source,
@@ -63,7 +55,8 @@ fn tell(
         &mut hops[..b],
         &mut wholes[..c],
     );
-    put_tally(to, t)?;
+    put_judged(to, b" survivors", t)?;
+    put(to, t.unwrap_or(0))?;
     text(to, b" targets")?;
     put_first(to, ends, a)?;
     text(to, b" hops")?;
@@ -86,7 +79,11 @@ fn both(
     let mut ends = [9u64; 40];
     let mut hops = [9u64; 40];
     let mut wholes = [9u64; 40];
-    put_verdict(to, judge::judge(mesh, source, targets, places, counts))?;
+    put_judged(
+        to,
+        b"judge",
+        judge::judge(mesh, source, targets, places, counts),
+    )?;
     tell(
         to,
         mesh,

@@ -32,7 +32,7 @@ fn case(to: &impl Print, list: &[u64], at: usize) -> io::Result<usize>
 
 // The cases among the first n numbers.
 fn cases(to: &impl Print, list: &[u64], n: usize) -> io::Result<()> {
-    let end = script::least(n, list.len());
+    let end = n.min(list.len());
     let mut at: usize = 0;
     while at < end {
         at = case(to, list, at)?;

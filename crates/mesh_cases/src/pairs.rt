@@ -3,6 +3,7 @@
 ghost use Rattle.std.specs.Prelude.{◌≤◌, ◌<◌, length, IfOk};
 
 use mesh::Mesh;
+use requests::Facts;
 use script::{flag, item, put, put_answer, put_yes_no, text};
 use std::io;
 
@@ -28,7 +29,7 @@ fn route(
     room: usize,
     out: &mut [u64],
 ) -> io::Result<()> {
-    let n = script::least(room, out.len());
+    let n = room.min(out.len());
     let a = mesh::route(mesh, source, target, &mut out[..n]);
     text(to, b" in")?;
     put(to, n as u64)?;

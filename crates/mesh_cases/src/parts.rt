@@ -8,16 +8,17 @@ use two::{Block, Order, Slot};
 
 fn by_parts(to: &impl Print, order: Order, b: Block, p: Slot, c: Block, q: Slot) -> io::Result<()> {
     let mut out = [0u64; 256];
+    let (source, target) = ((b, p), (c, q));
     put_answer(to, b"parts", two::number(order, b, p))?;
-    put_yes_no(to, b" linked", two::linked_parts(order, b, p, c, q))?;
-    put_answer(to, b" next", two::next_hop_parts(order, b, p, c, q))?;
-    put_answer(to, b" seen", two::seen_parts(order, b, p, c, q))?;
+    put_yes_no(to, b" linked", two::linked(order, source, target))?;
+    put_answer(to, b" next", two::next_hop(order, source, target))?;
+    put_answer(to, b" seen", two::seen(order, source, target))?;
     put_answer(
         to,
         b" distance",
-        two_distance::distance_parts(order, b, p, c, q),
+        two_distance::distance(order, source, target),
     )?;
-    put_answer(to, b" hops", two::route_parts(order, b, p, c, q, &mut out))?;
+    put_answer(to, b" hops", two::route(order, source, target, &mut out))?;
     text(to, b"\n")
 }
 
@@ -41,8 +42,8 @@ pub fn case(to: &impl Print, list: &[u64], at: usize) -> io::Result<usize>
     by_numbers(
         to,
         order,
-        two::number(order, b, p).value(),
-        two::number(order, c, q).value(),
+        two::number(order, b, p).unwrap_or(0),
+        two::number(order, c, q).unwrap_or(0),
     )?;
     Ok(at + 5)
 }

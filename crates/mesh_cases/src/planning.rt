@@ -3,36 +3,24 @@
 // all places hold filler, and how many places and counts still hold the 77 from before.
 ghost use Rattle.std.specs.Prelude.{◌≤◌, ◌<◌, length, IfOk};
 
-use answers::Checked;
+use answers::{Reason, Refusal};
 use mesh::Mesh;
+use requests::Facts;
 use script::{item, put, put_first, run, text};
 use std::io;
 
 const HELD: u64 = 77;
 
-// 1 where they are the same, else 0.
-fn same(a: u64, b: u64) -> u64
-    ensures { result ≤ 1 }
-{
-    if a == b { 1 } else { 0 }
-}
-
 // How many of a list are x.
 fn count_of(list: &[u64], x: u64) -> u64 {
-    let mut n: u64 = 0;
-    let mut i: usize = 0;
-    while i < list.len() {
-        n += same(list[i], x);
-        i += 1;
-    }
-    n
+    list.iter().filter(|y| **y == x).count() as u64
 }
 
 // The path that begins at place `at`: its hop count and its relays.
 fn put_path(to: &impl Print, places: &[u64], at: usize, hops: u64) -> io::Result<()> {
     print!(to; "{hops}")?;
-    let from = script::least(at, places.len());
-    let more = script::least(hops as usize, places.len());
+    let from = at.min(places.len());
+    let more = (hops as usize).min(places.len());
     put_first(to, &places[from..], more + 1)?;
     text(to, b"\n")
 }
@@ -45,14 +33,10 @@ fn put_paths(
     w: usize,
     k: usize,
 ) -> io::Result<()> {
-    let step = script::least(w, places.len());
-    let n = script::least(k, counts.len());
     let mut at: usize = 0;
-    let mut i: usize = 0;
-    while i < n {
-        put_path(to, places, at, counts[i])?;
-        at = script::least(at + step, places.len());
-        i += 1;
+    for hops in counts.iter().take(k) {
+        put_path(to, places, at, *hops)?;
+        at = at.saturating_add(w).min(places.len());
     }
     Ok(())
 }
@@ -60,20 +44,20 @@ fn put_paths(
 // What came back.
 fn put_outcome(
     to: &impl Print,
-    checked: Checked,
+    planned: Result<(), Refusal>,
     mesh: Mesh,
     k: usize,
     places: &[u64],
     counts: &[u64],
 ) -> io::Result<()> {
-    match checked {
-        Checked::Fine => {
+    match planned {
+        Ok(()) => {
             text(to, b"fan")?;
             put(to, k as u64)?;
             text(to, b"\n")?;
-            put_paths(to, places, counts, mesh.places().value() as usize, k)
+            put_paths(to, places, counts, mesh.places().unwrap_or(0) as usize, k)
         }
-        Checked::Refused(why) => {
+        Err(why) => {
             text(to, b"refused")?;
             put(to, why.number())?;
             put(to, why.place() as u64)?;
@@ -91,9 +75,9 @@ fn plan(
     counted: usize,
     places: &mut [u64],
     counts: &mut [u64],
-) -> Checked {
-    let a = script::least(room, places.len());
-    let b = script::least(counted, counts.len());
+) -> Result<(), Refusal> {
+    let a = room.min(places.len());
+    let b = counted.min(counts.len());
     planner::plan(mesh, source, targets, &mut places[..a], &mut counts[..b])
 }
 
@@ -107,7 +91,7 @@ fn ask(
 ) -> io::Result<()> {
     let mut places = [HELD; 1300];
     let mut counts = [HELD; 40];
-    let checked = plan(
+    let planned = plan(
         mesh,
         source,
         targets,
@@ -116,7 +100,7 @@ fn ask(
         &mut places,
         &mut counts,
     );
-    put_outcome(to, checked, mesh, targets.len(), &places, &counts)?;
+    put_outcome(to, planned, mesh, targets.len(), &places, &counts)?;
     text(to, b"filler")?;
     put(to, count_of(&places, script::FILLER))?;
     text(to, b" held")?;

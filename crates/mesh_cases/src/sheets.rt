@@ -4,8 +4,8 @@
 ghost use Rattle.std.specs.Prelude.{◌≤◌, ◌<◌, length, IfOk};
 
 use mesh::Mesh;
-use script::{item, least, put, put_first, run, text};
-use sheet::Reading;
+use script::{item, put, put_first, run, text};
+use sheet::{Flaw, Head};
 use std::io;
 
 // How many places are lent.
@@ -18,10 +18,8 @@ struct Room {
 
 // All bytes of a list, as numbers.
 fn put_bytes(to: &impl Print, list: &[u8]) -> io::Result<()> {
-    let mut i: usize = 0;
-    while i < list.len() {
-        put(to, list[i] as u64)?;
-        i += 1;
+    for byte in list {
+        put(to, u64::from(*byte))?;
     }
     Ok(())
 }
@@ -37,26 +35,26 @@ fn tell_written(
     room: usize,
     out: &mut [u8],
 ) -> io::Result<()> {
-    let n = least(room, out.len());
+    let n = room.min(out.len());
     let written = sheet_write::write(mesh, source, targets, places, counts, &mut out[..n]);
     text(to, b"wrote")?;
-    put(to, written.number())?;
-    put(to, written.bytes() as u64)?;
+    put(to, answers::number(written))?;
+    put(to, sheet::bytes(written) as u64)?;
     text(to, b" bytes")?;
     put_bytes(to, &out[..n])?;
     text(to, b"\n")
 }
 
-fn put_reading(to: &impl Print, reading: Reading) -> io::Result<()> {
+fn put_reading(to: &impl Print, read: Result<Head, Flaw>) -> io::Result<()> {
     text(to, b"read")?;
-    put(to, reading.number())?;
-    put(to, reading.path() as u64)?;
-    put(to, reading.place() as u64)?;
-    let mesh = reading.mesh();
-    put(to, mesh.kind)?;
-    put(to, mesh.size)?;
-    put(to, reading.source())?;
-    put(to, reading.paths() as u64)
+    put(to, answers::number(read))?;
+    put(to, answers::path(read) as u64)?;
+    put(to, answers::place(read) as u64)?;
+    let head = sheet::told(read);
+    put(to, head.mesh.kind)?;
+    put(to, head.mesh.size)?;
+    put(to, head.source)?;
+    put(to, head.paths as u64)
 }
 
 // The reader, into a part of each slice lent.
@@ -66,10 +64,10 @@ fn read_into(
     places: &mut [u64],
     counts: &mut [u64],
     targets: &mut [u64],
-) -> Reading {
-    let a = least(room.places, places.len());
-    let b = least(room.counts, counts.len());
-    let c = least(room.targets, targets.len());
+) -> Result<Head, Flaw> {
+    let a = room.places.min(places.len());
+    let b = room.counts.min(counts.len());
+    let c = room.targets.min(targets.len());
     sheet_read::read(bytes, &mut places[..a], &mut counts[..b], &mut targets[..c])
 }
 
@@ -97,13 +95,10 @@ fn tell_read(
 fn as_bytes(list: &[u64], out: &mut [u8]) -> usize
     ensures { result ≤ length out.new }
 {
-    let n = least(list.len(), out.len());
-    let mut i: usize = 0;
-    while i < n {
-        out[i] = (list[i] % 256) as u8;
-        i += 1;
+    for (to, from) in out.iter_mut().zip(list) {
+        *to = (*from % 256) as u8;
     }
-    n
+    list.len().min(out.len())
 }
 
 // The writer is asked from the place `at` on; where the next case stands.

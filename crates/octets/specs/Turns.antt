@@ -92,14 +92,13 @@ pub put_eight : (l : List ℕ) {part : List ℕ} (at v : ℕ) → part ≡ bytes
 put_eight l {part} at v e h =
     let long : length (big 8 v) ≡ 8 = big-length 8 v in
     let behind : drop (at + 8 - at) (drop at l) ≡ drop (at + length (big 8 v)) l =
-        drop-drop (at + 8 - at) at l ∙ ap (λ (i : ℕ). drop i l) (omega arith) in
+    drop-drop (at + 8 - at) at l ∙ ap (λ (i : ℕ). drop i l) (omega arith) in
     ap₂ (λ (m r : List ℕ). take at l ++ (m ++ r)) (e ∙ big-bytes 8 v) behind ∙ sym (sets-eq (big 8 v) l at (omega arith) ∙ append_assoc (take at l) (big 8 v) (drop (at + length (big 8 v)) l))
 
--- a number that the library read from a part
-pub number_eight : {part : List ℕ} (l : List ℕ) (at : ℕ) → part ≡ take (at + 8 - at) (drop at l) → from_be_bytes w64 part ≡ number l at 8
+-- a number that the library read from eight bytes
+pub number_eight : (l : List ℕ) (at : ℕ)
+    → from_be_bytes w64
+    (get_or l at 0 ∷ get_or l (at + 1) 0 ∷ get_or l (at + 2) 0 ∷ get_or l (at + 3) 0 ∷ get_or l (at + 4) 0 ∷ get_or l (at + 5) 0 ∷ get_or l (at + 6) 0 ∷ get_or l (at + 7) 0 ∷ [])
+    ≡ number l at 8
 unfolding number
-number_eight l at e =
-    let b : (i : ℕ) → i < 8 → get_or (take (at + 8 - at) (drop at l)) i 0 ≡ get_or l (at + i) 0 = part_byte l at 8 in
-    rw e
-    (omega
-    (arith, b 0 (omega arith), b 1 (omega arith), b 2 (omega arith), b 3 (omega arith), b 4 (omega arith), b 5 (omega arith), b 6 (omega arith), b 7 (omega arith)))
+number_eight l at = let first : get_or l (at + 0) 0 ≡ get_or l at 0 = ap (λ (i : ℕ). get_or l i 0) (omega arith) in omega (arith, first)

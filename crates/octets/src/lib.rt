@@ -30,6 +30,7 @@ pub fn number(bytes: &[u8], at: usize, w: usize) -> u64
 }
 
 // Writes the eight bytes of a number from the place `at` on: a store and a byte swap, once compiled.
+// Stays: beside `put`, whose width is known only when it runs, so that it is a loop.
 pub fn put_eight(value: u64, at: usize, out: &mut [u8])
     requires { at + 8 ≤ length out.old }
     ensures { out.new ≡ sets out.old at (big 8 value) }
@@ -37,12 +38,20 @@ pub fn put_eight(value: u64, at: usize, out: &mut [u8])
     out[at..at + 8].copy_from_slice(&value.to_be_bytes());
 }
 
-// The number that eight bytes from the place `at` on are, read in the same way.
+// The number that eight bytes from the place `at` on are: a load and a byte swap, once compiled.
+// Stays: an array of eight elements and no `copy_from_slice`, which compiles to a comparison of addresses and a copy on the stack before the byte swap.
 pub fn number_eight(bytes: &[u8], at: usize) -> u64
     requires { at + 8 ≤ length bytes.now }
     ensures { result ≡ number bytes.now at 8 }
 {
-    let mut eight = [0u8; 8];
-    eight.copy_from_slice(&bytes[at..at + 8]);
-    u64::from_be_bytes(eight)
+    u64::from_be_bytes([
+        bytes[at],
+        bytes[at + 1],
+        bytes[at + 2],
+        bytes[at + 3],
+        bytes[at + 4],
+        bytes[at + 5],
+        bytes[at + 6],
+        bytes[at + 7],
+    ])
 }

@@ -1,5 +1,5 @@
 -- What the code owes at each of its ends: a plan refused, a plan written, a line that is none. Assumes nothing.
-use Rattle.std.specs.Prelude.{ℕ, ◌*◌, ◌≤◌, ◌≡◌, refl, Bool, true, false, List, ltb, length}
+use Rattle.std.specs.Prelude.{ℕ, ◌*◌, ◌≤◌, ◌≡◌, refl, Bool, true, false, List, ltb, length, Result, Ok, Err, ⊤}
 use Rattle.std.proofs.Common.{sym, ap, ◌∙◌, subst, arith, le-ltb}
 use Rattle.std.proofs.Math.Option.{Option, none, some}
 use Rattle.std.proofs.lemmas.Bool.{lt-leb}
@@ -8,11 +8,8 @@ use Rattle.scan.specs.Laws.{false-any}
 use Rattle.answers.specs.Order.{refuse, before}
 use Rattle.answers.specs.Pairs.{room-last}
 use Rattle.answers.specs.Told.{told, against, answer_told}
-use Rattle.answers.specs.declared.Answer.{Answer}
 use Rattle.answers.specs.declared.Refusal.{Refusal}
 use Rattle.answers.specs.declared.Refusal.TheVariants.{NoRoom}
-use Rattle.answers.specs.declared.Checked.{Checked}
-use Rattle.answers.specs.declared.Checked.TheVariants as checked
 use Rattle.paths.specs.Mesh.{Mesh, width}
 use Rattle.paths.specs.Fan.{hops, Fan}
 use Rattle.mesh.specs.Kinds.{Kind, kind_of, mesh_of, known}
@@ -26,19 +23,19 @@ use Rattle.reply.specs.Says.{Ruled, fault_of, AnswersTo, Said, reply_room}
 use Rattle.reply.specs.Sizes.{Enough, enough}
 
 -- what a request is answered by
-pub record Ruling (kind size source : ℕ) (targets was : List ℕ) (r : Answer) (now : List ℕ) : Type 0 where
+pub record Ruling (kind size source : ℕ) (targets was : List ℕ) (r : Result ℕ Refusal) (now : List ℕ) : Type 0 where
   pub said : List ℕ
   pub ruled : AnswersTo kind size source targets said
   pub says : Said said was r now
 
 -- what was written where nothing wanted room
-pub written-said : {r : Answer} (text was : List ℕ) {now : List ℕ} (b : Bool) → b ≡ false → answer_told r ≡ write_told b text → now ≡ write_leaves b text was → Said text was r now
+pub written-said : {r : Result ℕ Refusal} (text was : List ℕ) {now : List ℕ} (b : Bool) → b ≡ false → answer_told r ≡ write_told b text → now ≡ write_leaves b text was → Said text was r now
 written-said text was b f p q = record {
   told_long = p ∙ ap (λ (x : Bool). write_told x text) f;
   left = q ∙ ap (λ (x : Bool). write_leaves x text was) f;
 }
 
-pub refusal-said : {r : Answer} (why : Refusal) (was : List ℕ) {now : List ℕ} → reply_room ≤ length was
+pub refusal-said : {r : Result ℕ Refusal} (why : Refusal) (was : List ℕ) {now : List ℕ} → reply_room ≤ length was
     → answer_told r ≡ write_told (ltb (length was) refused_room) (refused_text why) → now ≡ write_leaves (ltb (length was) refused_room) (refused_text why) was → Said (refused_text why) was r now
 refusal-said why was h = written-said (refused_text why) was (ltb (length was) refused_room) (le-ltb (length was) refused_room (omega arith))
 
@@ -71,15 +68,15 @@ module _ (kind n s : ℕ) (targets places counts : List ℕ) (p : length places 
           room-last (planned_early K n s targets) (short m k (length places) (length counts))
           ∙ ap (λ (o : Option Refusal). before o (refuse (short m k (length places) (length counts)) NoRoom none)) e ∙ sym e
 
-  module _ {r : Checked} {places₁ counts₁ : List ℕ}
+  module _ {r : Result ⊤ Refusal} {places₁ counts₁ : List ℕ}
       (w : Planned (planned_against K n s targets (short m k (length places) (length counts))) m s targets places counts r places₁ counts₁) where
-    fault : {c : Checked} → r ≡ c → against c ≡ fault_of kind n s targets
+    fault : {c : Result ⊤ Refusal} → r ≡ c → against c ≡ fault_of kind n s targets
     fault e = sym (ap against e) ∙ planned-against w ∙ room_unasked
 
-    pub plan_refused : {why : Refusal} {a : Answer} {was now : List ℕ} → r ≡ checked.Refused why → Said (refused_text why) was a now → Ruling kind n s targets was a now
+    pub plan_refused : {why : Refusal} {a : Result ℕ Refusal} {was now : List ℕ} → r ≡ Err why → Said (refused_text why) was a now → Ruling kind n s targets was a now
     plan_refused {why} e t = record { said = refused_text why; ruled = subst (λ (o : Option Refusal). Ruled m s targets o (refused_text why)) (fault e) refl; says = t }
 
-    module _ (e : r ≡ checked.Fine) where
+    module _ (e : r ≡ Ok tt) where
       planned-fine : Fine K n s targets × (K.planned ≡ true)
       planned-fine = plan_fine K n s targets (sym (fault e))
 
@@ -102,7 +99,7 @@ module _ (kind n s : ℕ) (targets places counts : List ℕ) (p : length places 
           ∙ ap (λ (b : Bool). pick b true (ltb bytes (fan_room k (width m)))) none-overlong
           ∙ le-ltb bytes (fan_room k (width m)) (omega (arith, f.bytes))
 
-      pub plan_written : {v : ℕ} {a : Answer} (was : List ℕ) {now : List ℕ} → reply_room ≤ length was → v ≡ width m
+      pub plan_written : {v : ℕ} {a : Result ℕ Refusal} (was : List ℕ) {now : List ℕ} → reply_room ≤ length was → v ≡ width m
           → answer_told a ≡ write_told (wanting k v places₁ counts₁ (length was)) (fan_text k v places₁ counts₁)
           → now ≡ write_leaves (wanting k v places₁ counts₁ (length was)) (fan_text k v places₁ counts₁) was
           → Ruling kind n s targets was a now

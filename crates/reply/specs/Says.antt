@@ -1,9 +1,8 @@
 -- What answers a line (`Answers`): `refused 10 0` what is no line, `refused N P` a request against which something stands, and else the text of a fan to the
 -- targets that the line states. `Answered` is what is told and left. Assumes nothing.
-use Rattle.std.specs.Prelude.{ℕ, ◌*◌, ◌≤◌, ◌≡◌, Bool, true, false, List, ◌++◌, ltb, length, drop}
+use Rattle.std.specs.Prelude.{ℕ, ◌*◌, ◌≤◌, ◌≡◌, Bool, true, false, List, ◌++◌, ltb, length, drop, Result}
 use Rattle.std.proofs.Math.Option.{Option, none, some}
 use Rattle.answers.specs.Told.{told, tell, answer_told}
-use Rattle.answers.specs.declared.Answer.{Answer}
 use Rattle.answers.specs.declared.Refusal.{Refusal}
 use Rattle.answers.specs.declared.Refusal.TheVariants.{Unreadable, NoRoom}
 use Rattle.paths.specs.Mesh.{Mesh, width}
@@ -41,7 +40,7 @@ Answers none said = said ≡ refused_text Unreadable
 Answers (some q) said = AnswersTo q.kind q.size q.source q.targets said
 
 -- a text is told by its length, and left at the front of what was there
-pub record Said (said was : List ℕ) (r : Answer) (now : List ℕ) : Type 0 where
+pub record Said (said was : List ℕ) (r : Result ℕ Refusal) (now : List ℕ) : Type 0 where
   pub told_long : answer_told r ≡ told 0 0 (length said)
   pub left : now ≡ said ++ drop (length said) was
 
@@ -49,15 +48,15 @@ pub record Said (said was : List ℕ) (r : Answer) (now : List ℕ) : Type 0 whe
 abbrev pub reply_room : ℕ
 reply_room = 32768
 
-pub record Replied (text was : List ℕ) (r : Answer) (now : List ℕ) : Type 0 where
+pub record Replied (text was : List ℕ) (r : Result ℕ Refusal) (now : List ℕ) : Type 0 where
   pub said : List ℕ
   pub answers : Answers (asked text) said
   pub says : Said said was r now
 
 -- 8 where there is no room, and nothing is changed then
-abbrev pub AnsweredIn : (short : Bool) (text was : List ℕ) (r : Answer) (now : List ℕ) → Type 0
+abbrev pub AnsweredIn : (short : Bool) (text was : List ℕ) (r : Result ℕ Refusal) (now : List ℕ) → Type 0
 AnsweredIn true text was r now = (answer_told r ≡ tell (some NoRoom) 0 0) × (now ≡ was)
 AnsweredIn false text was r now = Replied text was r now
 
-abbrev pub Answered : (text was : List ℕ) (r : Answer) (now : List ℕ) → Type 0
+abbrev pub Answered : (text was : List ℕ) (r : Result ℕ Refusal) (now : List ℕ) → Type 0
 Answered text was r now = AnsweredIn (ltb (length was) reply_room) text was r now

@@ -1,11 +1,10 @@
 -- Where something stands against a line, two answers that are promised are the same, in what they tell and in what they leave (`answered_unique`). Where nothing
 -- does, they may differ in the fan: the choice among several is free. Assumes nothing.
-use Rattle.std.specs.Prelude.{ℕ, ◌≡◌, refl, Bool, true, false, List, ◌++◌, ltb, length, drop}
+use Rattle.std.specs.Prelude.{ℕ, ◌≡◌, refl, Bool, true, false, List, ◌++◌, ltb, length, drop, Result}
 use Rattle.std.proofs.Common.{sym, ap, ◌∙◌, subst}
 use Rattle.std.proofs.Math.Option.{Option, none, some}
 use Rattle.answers.specs.Told.{told}
 use Rattle.answers.specs.Laws.{answer_unique}
-use Rattle.answers.specs.declared.Answer.{Answer}
 use Rattle.answers.specs.declared.Refusal.{Refusal}
 use Rattle.answers.specs.declared.Refusal.TheVariants.{Unreadable}
 use Rattle.mesh.specs.Kinds.{mesh_of}
@@ -24,7 +23,7 @@ refused_said : (o : Option Request) (why : Refusal) (said : List ℕ) → fault_
 refused_said none why said e a = a ∙ ap refused_text (same_some e)
 refused_said (some q) why said e a = subst (λ (f : Option Refusal). Ruled (mesh_of q.kind q.size) q.source q.targets f said) e a
 
-module _ (text was : List ℕ) {why : Refusal} (e : fault_in (asked text) ≡ some why) (r s : Answer) (now then : List ℕ) where
+module _ (text was : List ℕ) {why : Refusal} (e : fault_in (asked text) ≡ some why) (r s : Result ℕ Refusal) (now then : List ℕ) where
   abbrev Same : Type 0
   Same = (r ≡ s) × (now ≡ then)
 
@@ -39,5 +38,5 @@ module _ (text was : List ℕ) {why : Refusal} (e : fault_in (asked text) ≡ so
   by_room true a b = (answer_unique r s (a.0 ∙ sym b.0), a.1 ∙ sym b.1)
   by_room false a b = replied_same a b
 
-pub answered_unique : (text was : List ℕ) {why : Refusal} (r s : Answer) (now then : List ℕ) → fault_in (asked text) ≡ some why → Answered text was r now → Answered text was s then → (r ≡ s) × (now ≡ then)
+pub answered_unique : (text was : List ℕ) {why : Refusal} (r s : Result ℕ Refusal) (now then : List ℕ) → fault_in (asked text) ≡ some why → Answered text was r now → Answered text was s then → (r ≡ s) × (now ≡ then)
 answered_unique text was r s now then e = by_room text was e r s now then (ltb (length was) reply_room)

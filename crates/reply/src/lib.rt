@@ -5,23 +5,22 @@ ghost use Rattle.std.specs.Prelude.{◌≤◌, length};
 ghost use Rattle.reply.specs.Laws.{Ruling};
 ghost use Rattle.reply.specs.Says.{Answered, reply_room};
 
-use answers::{Answer, Checked, Refusal};
-use line::Line;
+use answers::Refusal;
 use mesh::Mesh;
 
 // The bytes that are enough for every answer.
 pub const ROOM: usize = 32768;
 
 // The answer to a request: the text of a fan, or of what stands against it.
-fn request(mesh: Mesh, source: u64, targets: &[u64], out: &mut [u8]) -> Answer
+fn request(mesh: Mesh, source: u64, targets: &[u64], out: &mut [u8]) -> Result<u64, Refusal>
     requires { reply_room ≤ length out.old }
     ensures { Ruling mesh.kind mesh.size source targets.now out.old result out.new }
 {
     let mut places = [0u64; mesh::MOST_PLACES];
     let mut counts = [0u64; 64];
     match planner::plan(mesh, source, targets, &mut places, &mut counts) {
-        Checked::Refused(why) => line_write::write_refusal(why, out),
-        Checked::Fine => {
+        Err(why) => line_write::write_refusal(why, out),
+        Ok(()) => {
             let w = mesh::places_in(mesh) as usize;
             line_write::write_fan(targets.len(), w, &places, &counts, out)
         }
@@ -31,18 +30,15 @@ fn request(mesh: Mesh, source: u64, targets: &[u64], out: &mut [u8]) -> Answer
 // Answers a request line: `two 1 0 5 1` and a line end by `fan 2`, `6 0 2 3 7 6 4 5` and `1 0 1`, each with a line end, at the front of `out`; how many bytes
 // that is comes back. What is no line is answered `refused 10 0`, a request against which something stands `refused N P`, with its number and place.
 // Refuses with 8 where there are fewer than `ROOM` bytes, and then changes nothing.
-pub fn answer(text: &[u8], out: &mut [u8]) -> Answer
+pub fn answer(text: &[u8], out: &mut [u8]) -> Result<u64, Refusal>
     ensures { Answered text.now out.old result out.new }
 {
     if out.len() < ROOM {
-        return Answer::Refused(Refusal::NoRoom);
+        return Err(Refusal::NoRoom);
     }
     let mut targets = [0u64; 64];
     match line_read::read(text, &mut targets) {
-        Line::Refused(why) => line_write::write_refusal(why, out),
-        Line::Request(asked) => {
-            let count = asked.count;
-            request(asked.mesh, asked.source, &targets[..count], out)
-        }
+        Err(why) => line_write::write_refusal(why, out),
+        Ok(asked) => request(asked.mesh, asked.source, &targets[..asked.count], out),
     }
 }

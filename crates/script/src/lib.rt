@@ -11,95 +11,53 @@ use std::io::Read;
 // What the letter F stands for: 2^64 - 1.
 pub const FILLER: u64 = 18446744073709551615;
 
-#[derive(Clone, Copy)]
-struct Word {
-    value: u64,
-    end: usize,
-}
-
-// The place of the first byte from `at` on that is no space and no line end.
-fn skip(text: &[u8], at: usize) -> usize {
-    let mut i = at;
-    while i < text.len() {
-        if 32 < text[i] {
-            return i;
-        }
-        i += 1;
-    }
-    i
-}
-
 // The number with one more digit.
 fn longer(value: u64, byte: u8) -> u64 {
-    if byte == 70 {
+    if byte == b'F' {
         return FILLER;
     }
     let ten = value.wrapping_mul(10);
-    ten.wrapping_add((byte as u64).wrapping_sub(48))
+    ten.wrapping_add(u64::from(byte).wrapping_sub(48))
 }
 
-// The number that begins at `at`, and where it ends.
-fn read(text: &[u8], at: usize) -> Word {
-    let mut value: u64 = 0;
-    let mut i = at;
-    while i < text.len() {
-        let byte = text[i];
-        if byte <= 32 {
-            return Word { value, end: i };
-        }
-        value = longer(value, byte);
-        i += 1;
-    }
-    Word { value, end: i }
-}
-
-// Writes the numbers of a text into `out`, as many as it holds, and counts them.
+// Writes the numbers of a text into `out`, as many as it holds, and counts them. Between them stand spaces and line ends.
 pub fn numbers(text: &[u8], out: &mut [u64]) -> usize
     ensures { result ≤ length out.new }
 {
-    let mut n: usize = 0;
-    let mut at = skip(text, 0);
-    while n < out.len() {
-        if text.len() <= at {
+    let mut n = 0usize;
+    for word in text.split(|byte| *byte <= 32) {
+        if word.is_empty() {
+            continue;
+        }
+        if out.len() <= n {
             return n;
         }
-        let w = read(text, at);
-        out[n] = w.value;
+        out[n] = word.iter().fold(0, |value, byte| longer(value, *byte));
         n += 1;
-        at = skip(text, w.end);
     }
     n
 }
 
 // The number at place i, and 0 beyond the end.
 pub fn item(list: &[u64], i: usize) -> u64 {
-    if i < list.len() {
-        return list[i];
-    }
-    0
+    list.get(i).copied().unwrap_or(0)
 }
 
 // The run whose length stands at place `at`, and nothing where it does not fit.
 pub fn run(list: &[u64], at: usize) -> &[u64]
     ensures { length result.now ≤ length list.now }
 {
-    if list.len() <= at {
+    let Some((n, rest)) = list.get(at..).and_then(|left| left.split_first()) else {
         return &list[..0];
-    }
-    let n = list[at] as usize;
-    let from = at + 1;
-    if list.len() - from < n {
-        return &list[..0];
-    }
-    let end = from + n;
-    &list[from..end]
+    };
+    rest.get(..*n as usize).unwrap_or(&list[..0])
 }
 
 // The smaller of two numbers.
 pub fn least(a: usize, b: usize) -> usize
     ensures { (result ≤ a) × (result ≤ b) }
 {
-    if a < b { a } else { b }
+    a.min(b)
 }
 
 pub fn text(to: &impl Print, s: &[u8]) -> io::Result<()> {
@@ -113,18 +71,15 @@ pub fn put(to: &impl Print, n: u64) -> io::Result<()> {
 
 // The first n numbers of a list.
 pub fn put_first(to: &impl Print, list: &[u64], n: usize) -> io::Result<()> {
-    let k = least(n, list.len());
-    let mut i: usize = 0;
-    while i < k {
-        put(to, list[i])?;
-        i += 1;
+    for x in list.iter().take(n) {
+        put(to, *x)?;
     }
     Ok(())
 }
 
 // 1 for yes, 0 for no.
 pub fn flag(b: bool) -> u64 {
-    if b { 1 } else { 0 }
+    u64::from(b)
 }
 
 // What is told, after its name: number, place and value.

@@ -7,6 +7,7 @@ ghost use Rattle.survivors.specs.Says.{Survived};
 use judge::Fault;
 use mesh::Mesh;
 
+// Stays: a function beside `three`. What the two share is `few` and `columns::fill`; the judge, the width, and the targets, which stand in an array here, are others.
 // The three columns of a bundle, for a caller that is lent more, which may be lacking.
 pub fn bundle_three(
     mesh: Mesh,

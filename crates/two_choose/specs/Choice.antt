@@ -28,15 +28,6 @@ module _ (s0 k : ℕ) (tb : ℕ → ℕ) (kept j : ℕ) where
   pub not_gated : (IsGated s0 k tb kept j → ⊥) → Plain s0 k tb kept j
   not_gated n ne = ((λ i h d e. n (ne, inl (i, h, d, e))), (λ a o e. n (ne, inr (a, o, e))))
 
-  pub gated_home : tb j ≡ s0 → Tells (IsGated s0 k tb kept j) false
-  gated_home e = tells_no (λ z. z.0 e)
-
-  pub gated_shared : tb j ≢ s0 → Shared k tb j → Tells (IsGated s0 k tb kept j) true
-  gated_shared ne s = tells_yes (ne, inl s)
-
-  pub gated_behind : {r : Bool} → tb j ≢ s0 → (Shared k tb j → ⊥) → Tells (Behind s0 kept (tb j)) r → Tells (IsGated s0 k tb kept j) r
-  gated_behind ne n t = record { so = λ e. (ne, inr (t.so e)); not = λ e z. ⊎_elim n (t.not e) z.1 }
-
 -- those of the first n targets whose block is behind a door of the set
 abbrev pub Hidden : (s0 : ℕ) (tb : ℕ → ℕ) (doors n r : ℕ) → Type 0
 Hidden s0 tb doors n r = Chosen (λ j. Behind s0 doors (tb j)) (λ j. (a : ℕ) → bit a doors ≡ 1 → tb j ≢ flip s0 a) (2 ^ n - 1) r

@@ -22,11 +22,6 @@ use Rattle.two_general.specs.Draft.{State, who_of, way_of, single_on, leave-belo
 
 -- ---- small facts
 
--- the tail through a gate
-some-steps : (m q p : ℕ) → Near m p q → (tail : List ℕ) × Steps m q p tail
-some-steps m q p (inl e) = (q ∷ [], inl (e, refl))
-some-steps m q p (inr (h, l, e)) = (q ∷ p ∷ [], inr (h, l, sym (ap (λ (y : ℕ). flip y h) e ∙ flip-flip p h), refl))
-
 -- slots of a walk in a block
 walk-slots : (m u t : ℕ) (l : List ℕ) → u < 2 ^ m → Walk (2 ^ m - 1) u t l → (x : ℕ) → In x l → x < 2 ^ m
 walk-slots m u t [] h w x o = absurd o

@@ -74,9 +74,6 @@ module _ {m s0 p0 k : ℕ} {blocks slots : List ℕ} {c : Choice} {o : Option ta
       let p : 2 ^ m ≤ 32 = pow_mono a.high in
       (omega (arith, a.ask.few, a.high), a.high, p)
 
-  pub held_inside : (s0 p0 : ℕ) × Inside s0 p0 slots c o g j
-  held_inside = (s0, p0, record { m = m; k = k; blocks = blocks; lt = lt; state = h.state })
-
   walks-way : walks p0 leaves j ≡ true → Way (ones (2 ^ m - 1)) (2 ^ m - 1) p0 0 (at leaves j) (hops heads j)
   walks-way e = h.fan.fan.each j (⊎_elim (λ z. absurd (true-false e (ap not (eq-eqb (at leaves j) p0 (h.walk.fails j (bit-full k j lt) z))))) (λ z. z) (bit-cases j h.walkers))
 
@@ -152,19 +149,7 @@ module _ {m s0 p0 k w : ℕ} {blocks slots : List ℕ} {c : Choice} {o : Option 
   abbrev Drawn₁ : (source : ℕ) (places counts : List ℕ) (j : ℕ) → Type 0
   Drawn₁ source places counts j = Drawing w source k (Pathed m s0 p0 k blocks slots c o g leaves heads) places₀ counts₀ places counts j
 
-  pub writes_none : (source : ℕ) → Drawn₁ source places₀ counts₀ 0
-  writes_none source = drawing_none w source k (Pathed m s0 p0 k blocks slots c o g leaves heads) places₀ counts₀ a.room a.room-counts a.filled
-
   module _ {source j : ℕ} {places counts : List ℕ} (d : Drawn₁ source places counts j) (lt : j < k) where
-    pub writes_room : (j * w + (most m + 1) ≤ length places) × (j < length counts)
-    writes_room = (omega (arith, row_room j k w lt, d.room, a.wide), omega (arith, d.room-counts))
-
-    pub writes_inner : Inner m s0 p0 blocks slots c o g leaves heads j
-    writes_inner = record { k = k; lt = lt; held = a.held }
-
     pub writes_more : {places₁ : List ℕ} {r : ℕ} → ((k : ℕ) → j < k → Held m s0 p0 k blocks slots c o g leaves heads → Put m s0 p0 k blocks slots c o g leaves heads source j (j * w) places places₁ r)
         → Drawn₁ source places₁ (set counts j r) (j + 1)
     writes_more {places₁} {r} f = let p = f k lt a.held in drawing_more d lt p.path r places₁ p.pathed (omega (arith, p.short, a.wide)) p.wrote p.count
-
-  pub writes_all : {source j : ℕ} {places counts : List ℕ} → j ≡ k → Drawn₁ source places counts j → Drawn₁ source places counts k
-  writes_all {source} {j} {places} {counts} e d = subst (Drawn₁ source places counts) e d

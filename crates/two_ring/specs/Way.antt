@@ -1,4 +1,4 @@
--- Order 1 as the code has it: the ring as two tables, and the relays of a way along it in steps of 1, or of 7, which is one back.
+-- Order 1 as the code has it: the ring as a table, and the relays of a way along it in steps of 1, or of 7, which is one back.
 -- Main result `way-line`: such a way is one of `Ring`. Assumes nothing.
 use Rattle.std.specs.Prelude.{ℕ, zero, suc, ◌+◌, ◌-◌, ◌*◌, ◌%◌, ◌≤◌, ◌<◌, ◌≡◌, refl, Bool, true, false, List, [], ◌∷◌, length, get_or}
 use Rattle.std.proofs.Common.{sym, ap, ◌∙◌, add-one, arith}
@@ -8,12 +8,9 @@ use Rattle.two_math.specs.Ring.{at, at-mod, place, right, left, right-short, awa
 
 -- ---- the tables
 
--- the relay at each place of the ring, and the place of each relay
+-- the relay at each place of the ring
 unfoldable pub ring : List ℕ
 ring = 0 ∷ 1 ∷ 5 ∷ 4 ∷ 6 ∷ 7 ∷ 3 ∷ 2 ∷ []
-
-unfoldable pub spots : List ℕ
-spots = 0 ∷ 1 ∷ 7 ∷ 6 ∷ 3 ∷ 2 ∷ 4 ∷ 5 ∷ []
 
 abbrev pub relay_at : ℕ → ℕ
 relay_at n = number 1 (at n)
@@ -34,10 +31,6 @@ holds_at f (x ∷ l) (suc n) h lt = holds_at (λ k. f (suc k)) l n h.1 (omega ar
 pub ring_is : (n : ℕ) → get_or ring (n % 8) 0 ≡ relay_at n
 unfolding ring
 ring_is n = holds_at relay_at ring (n % 8) (refl, (refl, (refl, (refl, (refl, (refl, (refl, (refl, tt)))))))) (omega arith) ∙ ap (number 1) (at-mod n)
-
-pub spots_is : (x : ℕ) → x < 8 → get_or spots x 0 ≡ spot_of x
-unfolding spots
-spots_is x h = holds_at spot_of spots x (refl, (refl, (refl, (refl, (refl, (refl, (refl, (refl, tt)))))))) (omega arith)
 
 -- ---- a way along the ring
 

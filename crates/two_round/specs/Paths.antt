@@ -50,28 +50,6 @@ pub record Written (m s s0 p0 w : ℕ) (to : List ℕ) (row n : ℕ) (g : List �
   pub count : counts₁ ≡ set counts j (length path)
 
 module _ {m s0 p0 w : ℕ} {to : List ℕ} {row n : ℕ} {g : List ℕ} (c : Course m s0 p0 w to row n g) (j : ℕ) where
-  -- the last path: the row that is cut
-  pub cut_row : j ≡ m → j ≢ row → row < m
-  cut_row e ne = omega (arith, c.row_in)
-
-  pub part_cut : j ≡ m → j ≢ row → Part m row n g j (take n (hops g row))
-  part_cut e ne =
-      let l : row < m = cut_row e ne in
-      let size : length (take n (hops g row)) ≡ n = length-take n (hops g row) ∙ omega (arith, c.cut l) in
-      record {
-        few = omega (arith, c.few row l, c.cut l);
-        below = λ i h. let lt : i < n = omega arith in rw get_or-take (c.below row l i (omega (arith, c.cut l)));
-        is = sym (when_yes (ℕ_discrete j m) (take n (hops g row)) (hops g j) e);
-      }
-
-  -- any other: its own row, all of it
-  pub part-own : j ≤ m → j ≢ m → Part m row n g j (hops g j)
-  part-own h ne = record {
-    few = c.few j (omega arith);
-    below = c.below j (omega arith);
-    is = sym (when_no (ℕ_discrete j m) (take n (hops g row)) (hops g j) ne);
-  }
-
   pub written_around : (s r : ℕ) (places counts places₁ : List ℕ) → j ≡ row → Rounded m s s0 p0 (at to j) (j * w) places places₁ r
       → Written m s s0 p0 w to row n g j places counts places₁ (set counts j r)
   written_around s r places counts places₁ e d = record {

@@ -43,20 +43,6 @@ pub record Reading (m : ℕ) (targets to : List ℕ) (i : ℕ) : Type 0 where
   pub is : (j : ℕ) → j < i → at to j ≡ slot_of m (get_or targets j 0)
   pub long : length to ≡ 16
 
-pub reading-none : (m : ℕ) (targets to : List ℕ) → length to ≡ 16 → Reading m targets to 0
-reading-none m targets to h = record { bound = omega arith; is = λ j l. absurd (omega arith); long = h }
-
-pub reading-more : {m : ℕ} {targets to : List ℕ} {i : ℕ} (v : ℕ) → Reading m targets to i → i < length targets → length targets ≤ 16 → v ≡ slot_of m (get_or targets i 0)
-    → Reading m targets (set to i v) (i + 1)
-reading-more {m} {targets} {to} {i} v r h few e = record {
-  bound = omega arith;
-  is = below_more _ _ (λ j l. get_or-set_other to i j v 0 (λ z. omega arith) ∙ r.is j l) (get_or-set_same to i v 0 (omega (arith, r.long)) ∙ e);
-  long = length-set to i v ∙ r.long;
-}
-
-pub reading_done : {m : ℕ} {targets to : List ℕ} {i : ℕ} → Reading m targets to i → length targets ≤ i → Slots m targets to
-reading_done r h = record { is = λ j l. r.is j (omega arith); long = r.long }
-
 -- ---- what the cube planner is asked, and what it gives
 
 -- what is settled before the paths are written: the slots `to`, and the cut after n hops of the path of a row, where the last target stands

@@ -43,17 +43,6 @@ pub take_more : (l : List ℕ) (n v : ℕ) → n < length l → take (n + 1) (se
 take_more l n v h = ap (λ (y : ℕ). take y (set l n v)) (add-one n) ∙ take-suc-set l n v h
 
 module _ {m k : ℕ} {tb tp gate : ℕ → ℕ} {gated b enter to : ℕ} (a : TailAsk m k tb tp gate gated b enter to) where
-  pub tailing_none : {tail : List ℕ} → length tail ≡ 8 → take 1 tail ≡ enter ∷ [] → Tailing m k tb tp gate gated b enter to tail 1 enter
-  tailing_none long is = record {
-    cut = [];
-    going = strolling_none m enter to;
-    unhit = unhit_none (Hit k tb tp gate gated b) enter;
-    is = is;
-    size = refl;
-    long = long;
-    below = a.from;
-  }
-
   module _ {tail : List ℕ} {len here : ℕ} {o : Option ℕ} (t : Tailing m k tb tp gate gated b enter to tail len here) (met : Met k tb tp gate gated b here o) where
     -- nobody is met: it is not there yet
     pub tailing_goes : o ≡ None → here ≢ to

@@ -20,11 +20,11 @@ ahead_part l from (suc n) h =
     rw (drop-cons l from 0 lt) (ap (λ (y : List ℕ). get_or l from 0 ∷ y) (ahead_part l (suc from) n (omega arith)))
 
 -- the path's numbers are the row's last
-pub row_is : (g : List ℕ) (j a n : ℕ) → length (hops g j) < 34 → n ≡ get_or g (j * 35) 0 → a ≡ j * 35 + 35 - n → j * 35 + 35 ≤ length g → take (j * 35 + 35 - a) (drop a g) ≡ hops g j
+pub row_is : (g : List ℕ) (j a e n : ℕ) → length (hops g j) < 34 → n ≡ get_or g (j * 35) 0 → a ≡ e - n → e ≡ j * 35 + 35 → e ≤ length g → take (e - a) (drop a g) ≡ hops g j
 unfolding grid.hops
-row_is g j a n few count e room =
+row_is g j a e n few count begin end room =
     let len = hops-length g j in
     let all : min 35 (get_or g (j * 35) 0) ≡ n = omega arith in
     let from : j * 35 + 35 - min 35 (get_or g (j * 35) 0) ≡ a = omega arith in
-    let size : j * 35 + 35 - a ≡ n = omega arith in
+    let size : e - a ≡ n = omega arith in
     ap (λ (y : ℕ). take y (drop a g)) size ∙ sym (ap₂ (ahead g) from all ∙ ahead_part g a n (omega arith))

@@ -1,5 +1,5 @@
 -- `bits::bit` meets its contract: a mask by 1 is the lowest bit. Assumes nothing.
-use Rattle.std.proofs.Common.{ℕ, ◌/◌, ◌^◌, ap, rules, eqb}
+use Rattle.std.proofs.Common.{ℕ, ◌/◌, ◌^◌, ap, eqb}
 use lib.Bits.{and_mask}
 use Rattle.bits.specs.Bit.{bit}
 use Rattle.bits.proofs.bit.Goals as goal

@@ -1,5 +1,5 @@
 -- `bits::flip` meets its contract: 1 shifted by less than 64 is the power of two. Assumes nothing.
-use Rattle.std.proofs.Common.{ap, ◌∙◌, one-mul, arith, rules, shl_exact, bit_xor, ◌^◌}
+use Rattle.std.proofs.Common.{ap, ◌∙◌, one-mul, arith, shl_exact, bit_xor, ◌^◌}
 use Rattle.bits.specs.Bit.{flip}
 use Rattle.bits.proofs.flip.Goals as goal
 

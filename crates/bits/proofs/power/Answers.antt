@@ -1,5 +1,5 @@
 -- `bits::power` meets its contract: 1 shifted by less than 64 is the power of two. Assumes nothing.
-use Rattle.std.proofs.Common.{◌∙◌, ◌^◌, one-mul, arith, shl_exact, rules}
+use Rattle.std.proofs.Common.{◌∙◌, ◌^◌, one-mul, arith, shl_exact}
 use Rattle.bits.proofs.power.Goals as goal
 
 pub returns : goal.returns

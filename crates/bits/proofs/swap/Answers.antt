@@ -1,5 +1,5 @@
 -- `bits::swap` meets its contract: nothing is lost by the shift to the left. Assumes nothing.
-use Rattle.std.proofs.Common.{◌/◌, ◌^◌, ap, mod-eq_of_lt, mul-le-mul_right, lt_of_le_of_lt, rules, bit_xor}
+use Rattle.std.proofs.Common.{◌/◌, ◌^◌, ap, mod-eq_of_lt, mul-le-mul_right, lt_of_le_of_lt, bit_xor}
 use lib.Bits.{and_le_r}
 use Rattle.bits.specs.Swaps.{turning, swapped}
 use Rattle.bits.proofs.swap.Goals as goal

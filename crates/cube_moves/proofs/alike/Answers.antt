@@ -1,6 +1,5 @@
-use Rattle.std.proofs.Common.{sym, ap, ◌∙◌, subst, ℕ, bit_xor, bit_and}
-use Rattle.cube_rows.specs.Grid.{target}
-use Rattle.cube_moves.specs.Cut.{Like, Unlike, Picking, pick-start, pick-step, pick_all}
+use Rattle.std.proofs.Common.{sym, ap, ◌∙◌, ℕ, bit_xor, bit_and}
+use Rattle.cube_moves.specs.Cut.{pick-start, pick-step, pick_all}
 use Rattle.cube_moves.proofs.alike.Goals as goal
 
 pub loop-j-init : goal.loop-j-init

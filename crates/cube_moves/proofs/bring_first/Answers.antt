@@ -1,5 +1,5 @@
 -- `cube_moves::bring_first` meets its contract. Assumes nothing.
-use Rattle.std.proofs.Common.{sym, ◌∙◌, rules}
+use Rattle.std.proofs.Common.{sym, ◌∙◌}
 use Rattle.bits.specs.Laws.{bit-on, bit_off}
 use Rattle.cube_moves.specs.Bring.{fetch_home, fetch_none, fetch_straight}
 use Rattle.cube_moves.proofs.bring_first.Goals as goal

@@ -1,5 +1,5 @@
 -- `cube_moves::bring_home` meets its contract. Assumes nothing.
-use Rattle.std.proofs.Common.{ap, arith, length, rules}
+use Rattle.std.proofs.Common.{ap, arith, length}
 use Rattle.cube_moves.specs.Bring.{homes_is}
 use Rattle.cube_moves.proofs.bring_home.Goals as goal
 

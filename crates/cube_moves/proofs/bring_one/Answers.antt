@@ -1,5 +1,4 @@
 -- `cube_moves::bring_one` meets its contract. Assumes nothing.
-use Rattle.std.proofs.Common.{rules}
 use Rattle.cube_moves.specs.Bring.{turns_is}
 use Rattle.cube_moves.proofs.bring_one.Goals as goal
 

@@ -1,5 +1,5 @@
 -- `cube_moves::divide` meets its contract. Assumes nothing.
-use Rattle.std.proofs.Common.{refl, rules}
+use Rattle.std.proofs.Common.{refl}
 use Rattle.cube_rows.specs.Grid.{rows-part}
 use Rattle.cube_moves.specs.Halves.{halved, halved_room, home_chosen, divided}
 use Rattle.cube_moves.proofs.divide.Goals as goal

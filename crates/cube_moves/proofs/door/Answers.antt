@@ -1,5 +1,5 @@
 -- `cube_moves::door` meets its contract. Assumes nothing.
-use Rattle.std.proofs.Common.{ℕ, ◌≡◌, arith, rules}
+use Rattle.std.proofs.Common.{ℕ, ◌≡◌, arith}
 use Rattle.cube_moves.specs.Sort.{doored_one, doored_none}
 use Rattle.cube_moves.proofs.door.Goals as goal
 

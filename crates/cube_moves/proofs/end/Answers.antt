@@ -1,5 +1,5 @@
 -- `cube_moves::end` meets its contract. Assumes nothing.
-use Rattle.std.proofs.Common.{sym, ap, ◌∙◌, arith, length, rules}
+use Rattle.std.proofs.Common.{sym, ap, ◌∙◌, arith, length}
 use Rattle.bits.specs.Laws.{bit-on, bit_off}
 use Rattle.cube_moves.specs.Lone.{ended_turn, ended_same}
 use Rattle.cube_moves.proofs.end.Goals as goal

@@ -1,5 +1,5 @@
 -- `cube_moves::home_of` meets its contract. Assumes nothing.
-use Rattle.std.proofs.Common.{refl, sym, ◌∙◌, rules}
+use Rattle.std.proofs.Common.{refl, sym, ◌∙◌}
 use Rattle.bits.specs.Laws.{bit-on, bit_off, clash}
 use Rattle.cube_moves.proofs.home_of.Goals as goal
 

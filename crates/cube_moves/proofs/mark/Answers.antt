@@ -1,5 +1,5 @@
 -- `cube_moves::mark` meets its contract. Assumes nothing.
-use Rattle.std.proofs.Common.{◌≡◌, refl, ℕ, inr, arith, rules}
+use Rattle.std.proofs.Common.{◌≡◌, refl, ℕ, inr, arith}
 use Rattle.cube_moves.specs.Cut.{marked-one}
 use Rattle.cube_moves.proofs.mark.Goals as goal
 

@@ -1,5 +1,5 @@
 -- `cube_moves::open_door` meets its contract. Assumes nothing.
-use Rattle.std.proofs.Common.{ℕ, sym, ◌∙◌, subst, bit_and, rules}
+use Rattle.std.proofs.Common.{ℕ, sym, ◌∙◌, subst, bit_and}
 use Rattle.bits.specs.Bit.{Lowest}
 use Rattle.cube_math.specs.Masks.{less-some}
 use Rattle.cube_moves.specs.Lone.{open_less, open_good}

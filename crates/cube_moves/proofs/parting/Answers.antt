@@ -1,5 +1,5 @@
 -- `cube_moves::parting` meets its contract. Assumes nothing.
-use Rattle.std.proofs.Common.{◌≡◌, sym, ap, ◌∙◌, subst, ℕ, arith, rules}
+use Rattle.std.proofs.Common.{◌≡◌, sym, ap, ◌∙◌, subst, ℕ, arith}
 use lib.Count.{ones}
 use Rattle.bits.specs.Bit.{bit}
 use Rattle.bits.specs.Laws.{ones-zero}

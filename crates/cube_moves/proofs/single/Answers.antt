@@ -1,7 +1,7 @@
-use Rattle.std.proofs.Common.{ℕ, sym, ap, ◌∙◌, List, [], ◌∷◌, arith}
+use Rattle.std.proofs.Common.{ℕ, sym, ap, ◌∙◌, [], ◌∷◌, arith}
 use Rattle.cube_math.specs.Single.{rank}
-use Rattle.cube_rows.specs.Grid.{hops, Only, only_none, only_more}
-use Rattle.cube_moves.specs.Lone.{Ends, ends-at, inside_goal, ends_some, ends-room, ends-less, ends_more, ends-way}
+use Rattle.cube_rows.specs.Grid.{hops, only_none, only_more}
+use Rattle.cube_moves.specs.Lone.{ends-at, inside_goal, ends_some, ends-room, ends-less, ends_more, ends-way}
 use Rattle.cube_moves.proofs.single.Goals as goal
 
 pub target-d-requires : goal.target-d-requires

@@ -1,8 +1,8 @@
 -- `cube_moves::single` meets its contract. The loop's invariant: the row is the end of a path, from `here` on. Assumes nothing.
-use Rattle.std.proofs.Common.{ℕ, sym, ap, ◌∙◌, List, [], ◌∷◌, arith}
+use Rattle.std.proofs.Common.{ℕ, List}
 use Rattle.cube_math.specs.Single.{rank}
-use Rattle.cube_rows.specs.Grid.{hops, Only, only_none, only_more}
-use Rattle.cube_moves.specs.Lone.{Ends, ends-at, inside_goal, ends_some, ends-room, ends-less, ends_more, ends-way}
+use Rattle.cube_rows.specs.Grid.{hops, Only}
+use Rattle.cube_moves.specs.Lone.{Ends}
 use Rattle.cube_moves.proofs.single.Given as goal
 
 pub record Inv (free d j w i goal : ℕ) (g₀ g : List ℕ) (here : ℕ) : Type 0 where

@@ -1,5 +1,4 @@
 -- `cube_moves::sort_one` meets its contract. Assumes nothing.
-use Rattle.std.proofs.Common.{rules}
 use Rattle.cube_moves.specs.Sort.{sort_none, sort_some}
 use Rattle.cube_moves.proofs.sort_one.Goals as goal
 

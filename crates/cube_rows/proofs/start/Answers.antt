@@ -1,5 +1,5 @@
 -- `cube_rows::start` meets its contract. Assumes nothing.
-use Rattle.std.proofs.Common.{arith, length-set, rules}
+use Rattle.std.proofs.Common.{arith, length-set}
 use Rattle.cube_rows.specs.Grid.{start_sets}
 use Rattle.cube_rows.proofs.start.Goals as goal
 

@@ -1,4 +1,4 @@
-use Rattle.std.proofs.Common.{◌+◌, ◌≤◌, ◌≡◌, ◌∙◌, ◌<◌, arith, get_or}
+use Rattle.std.proofs.Common.{◌+◌, ◌≡◌, ◌∙◌, ◌<◌, arith, get_or}
 use Rattle.octets.specs.Turns.{reading_starts, reading-room, reading-more, reading-ends, part_byte, part-within}
 use Rattle.octets.proofs.number.Goals as goal
 

@@ -1,4 +1,4 @@
-use Rattle.std.proofs.Common.{◌-◌, ◌+◌, ◌≡◌, ◌∙◌, ◌/◌, ◌%◌, ap, List, ℕ, set, arith}
+use Rattle.std.proofs.Common.{◌-◌, ◌+◌, ◌∙◌, ◌/◌, ◌%◌, ap, ℕ, set, arith}
 use Rattle.std.proofs.lemmas.List.Edits.{sets}
 use Rattle.octets.specs.Big.{big}
 use Rattle.octets.specs.Turns.{put-step, put-none}

@@ -9,15 +9,15 @@ returns-then-out-lt-ROOM c =
     reply_short c.args.text.now c.args.out.now _ c.if-out-lt-ROOM.true refl refl
 
 pub slice_bounds-targets-end : goal.slice_bounds-targets-end
-slice_bounds-targets-end c = (line_request c.args.text.now (replicate 64 0) _ refl _ c.read.ensures.told c.read.ensures.left c.in-Request.is).within
+slice_bounds-targets-end c = (line_request c.args.text.now (replicate 64 0) _ refl _ c.read.ensures.told c.read.ensures.left c.in-Ok.is).within
 
 pub slice_bounds-request-end : goal.slice_bounds-request-end
-slice_bounds-request-end c = sym (length-take-le c.in-Request.asked.count c.read.new.targets (line_request c.args.text.now (replicate 64 0) _ refl _ c.read.ensures.told c.read.ensures.left c.in-Request.is).within)
+slice_bounds-request-end c = sym (length-take-le c.in-Ok.asked.count c.read.new.targets (line_request c.args.text.now (replicate 64 0) _ refl _ c.read.ensures.told c.read.ensures.left c.in-Ok.is).within)
 
-pub returns-in-Refused : goal.returns-in-Refused
-returns-in-Refused c =
-    reply_refused c.args.text.now (replicate 64 0) _ refl _ c.read.ensures.told c.read.ensures.left c.args.out.now c.if-out-lt-ROOM.false _ c.in-Refused.is (refusal-said c.in-Refused.why c.args.out.now c.if-out-lt-ROOM.false c.write_refusal.ensures.told c.write_refusal.ensures.left)
+pub returns-in-Err : goal.returns-in-Err
+returns-in-Err c =
+    reply_refused c.args.text.now (replicate 64 0) _ refl _ c.read.ensures.told c.read.ensures.left c.args.out.now c.if-out-lt-ROOM.false _ c.in-Err.is (refusal-said c.in-Err.why c.args.out.now c.if-out-lt-ROOM.false c.write_refusal.ensures.told c.write_refusal.ensures.left)
 
-pub returns-in-Request : goal.returns-in-Request
-returns-in-Request c =
-    reply_request c.args.text.now (replicate 64 0) _ refl _ c.read.ensures.told c.read.ensures.left c.args.out.now c.if-out-lt-ROOM.false _ c.in-Request.is c.request.ensures
+pub returns-in-Ok : goal.returns-in-Ok
+returns-in-Ok c =
+    reply_request c.args.text.now (replicate 64 0) _ refl _ c.read.ensures.told c.read.ensures.left c.args.out.now c.if-out-lt-ROOM.false _ c.in-Ok.is c.request.ensures

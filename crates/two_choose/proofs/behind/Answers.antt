@@ -5,11 +5,6 @@ use Rattle.two_gate.specs.Says.{Tells, tells_no}
 use Rattle.two_choose.specs.Masks.{behind_bit, behind_none, pow-some}
 use Rattle.two_choose.proofs.behind.Goals as goal
 
-pub lowest-requires : goal.lowest-requires
-lowest-requires c =
-    let x = c.one_bit.ensures.only c.if-one_bit.true in
-    pow-some x.0 x.2
-
 pub returns-then-one_bit : goal.returns-then-one_bit
 returns-then-one_bit c =
     let a = c.args in

@@ -4,14 +4,8 @@ use Rattle.cube_math.specs.Masks.{less}
 use Rattle.two_choose.specs.Chosen.{asks_few, small_below, crowd_small, inner_few, gate_ask, straight_few, ajar_few, reps_few, door_ask, chose}
 use Rattle.two_choose.proofs.choose.Goals as goal
 
-pub equals-inner-requires : goal.equals-inner-requires
-equals-inner-requires c = omega (arith, asks_few c.requires)
-
 pub values-kept-requires : goal.values-kept-requires
 values-kept-requires c = (inner_few c.requires c.equals-inner.ensures, small_below c.args.targets.now.slots c.requires.high c.requires.slot)
-
-pub gated_of-gated-requires : goal.gated_of-gated-requires
-gated_of-gated-requires c = omega (arith, asks_few c.requires)
 
 pub gates_of-gates-requires : goal.gates_of-gates-requires
 gates_of-gates-requires c = gate_ask c.requires c.equals-inner.ensures c.values-kept.ensures c.gated_of-gated.ensures
@@ -19,29 +13,14 @@ gates_of-gates-requires c = gate_ask c.requires c.equals-inner.ensures c.values-
 pub gate_blocks-behind-requires : goal.gate_blocks-behind-requires
 gate_blocks-behind-requires c = small_below c.gates_of-gates.result.slots c.requires.high c.gates_of-gates.ensures.gates.below
 
-pub equals-requires : goal.equals-requires
-equals-requires c = omega (arith, asks_few c.requires)
-
 pub values-requires : goal.values-requires
 values-requires c = (straight_few c.requires c.equals-inner.ensures c.values-kept.ensures c.gated_of-gated.ensures c.gates_of-gates.ensures.gates c.gate_blocks-behind.ensures c.equals.ensures refl, small_below c.gates_of-gates.result.slots c.requires.high c.gates_of-gates.ensures.gates.below)
-
-pub hidden-requires : goal.hidden-requires
-hidden-requires c = omega (arith, asks_few c.requires)
 
 pub firsts-reps-requires : goal.firsts-reps-requires
 firsts-reps-requires c = ajar_few c.requires c.equals-inner.ensures c.values-kept.ensures c.gated_of-gated.ensures c.gates_of-gates.ensures.gates c.gate_blocks-behind.ensures c.equals.ensures refl c.values.ensures c.hidden.ensures c.less.ensures
 
 pub values-crowds-requires : goal.values-crowds-requires
 values-crowds-requires c = (reps_few c.requires c.equals-inner.ensures c.values-kept.ensures c.gated_of-gated.ensures c.gates_of-gates.ensures.gates c.gate_blocks-behind.ensures c.equals.ensures refl c.values.ensures c.hidden.ensures c.less.ensures c.firsts-reps.ensures, crowd_small)
-
-pub power-requires : goal.power-requires
-power-requires c = omega (arith, asks_few c.requires)
-
-pub overflow_sub-power : goal.overflow_sub-power
-overflow_sub-power c = omega (arith, c.power.ensures, pow_pos c.args.targets.now.count)
-
-pub overflow_shl-home : goal.overflow_shl-home
-overflow_shl-home c = omega (arith, c.requires.high)
 
 pub shut_doors-shut-requires : goal.shut_doors-shut-requires
 shut_doors-shut-requires c =

@@ -8,9 +8,6 @@ use Rattle.two_choose.proofs.firsts.Goals as goal
 pub loop-todo-init : goal.loop-todo-init
 loop-todo-init c = classing_none _ _
 
-pub bounds-blocks-j : goal.bounds-blocks-j
-bounds-blocks-j c = c.requires _ (c.loop-todo.invariant.ahead _ c.lowest-j.ensures.set)
-
 pub loop-todo-smaller : goal.loop-todo-smaller
 loop-todo-smaller c = fewer _ _ _ c.lowest-j.ensures.set c.flip-todo.ensures
 

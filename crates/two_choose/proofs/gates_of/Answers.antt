@@ -6,12 +6,6 @@ use Rattle.two_choose.proofs.gates_of.Goals as goal
 pub loop-todo-init : goal.loop-todo-init
 loop-todo-init c = gating_none c.requires refl
 
-pub gate_for-requires : goal.gate_for-requires
-gate_for-requires c = gating_search c.requires _ c.loop-todo.invariant c.lowest-j.ensures.set
-
-pub bounds-done-j : goal.bounds-done-j
-bounds-done-j c = gating_small c.requires _ c.loop-todo.invariant c.lowest-j.ensures.set
-
 pub loop-todo-smaller : goal.loop-todo-smaller
 loop-todo-smaller c = fewer _ _ _ c.lowest-j.ensures.set c.flip-todo.ensures
 

@@ -4,9 +4,6 @@ use Rattle.bits.specs.Laws.{bit-on, bit_off}
 use Rattle.two_choose.specs.Doors.{next_lowest}
 use Rattle.two_choose.proofs.next_door.Goals as goal
 
-pub lowest-free-requires : goal.lowest-free-requires
-lowest-free-requires c = λ e. c.requires.1 (sym c.less.ensures ∙ e)
-
 pub returns-then-i-ne0 : goal.returns-then-i-ne0
 returns-then-i-ne0 c =
     let a = c.args in

@@ -7,12 +7,6 @@ use Rattle.two_choose.proofs.values.Goals as goal
 pub loop-todo-init : goal.loop-todo-init
 loop-todo-init c = using_none _ _
 
-pub bounds-vals-j : goal.bounds-vals-j
-bounds-vals-j c = c.requires.0 _ (c.loop-todo.invariant.ahead _ c.lowest-j.ensures.set)
-
-pub power-r-requires : goal.power-r-requires
-power-r-requires c = c.requires.1 _
-
 pub loop-todo-smaller : goal.loop-todo-smaller
 loop-todo-smaller c = fewer _ _ _ c.lowest-j.ensures.set c.flip-todo.ensures
 

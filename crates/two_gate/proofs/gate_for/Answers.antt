@@ -10,12 +10,6 @@ fails_more : (m s0 k : ℕ) (blocks slots gates : List ℕ) (done j n q : ℕ) �
 fails_more m s0 k blocks slots gates done j n q h e bad =
     none_more (λ c. None (Other s0 blocks slots gates done j (cand m (get_or slots j 0) c)) k) n h (λ z. bad (subst (λ (y : ℕ). None (Other s0 blocks slots gates done j y) k) (sym e) z))
 
-pub loop-c-init : goal.loop-c-init
-loop-c-init c = record { bound = omega arith; none = λ i h. absurd (omega arith) }
-
-pub candidate-q-requires : goal.candidate-q-requires
-candidate-q-requires c = (c.requires.order, c.requires.slot c.args.j, omega arith)
-
 pub passes-requires : goal.passes-requires
 passes-requires c =
     let p = get_or c.args.targets.now.slots c.args.j 0 in (
@@ -33,15 +27,6 @@ returns-then-passes c =
     (subst (λ (y : ℕ). Near a.home.order (get_or a.targets.now.slots a.j 0) y) (sym c.candidate-q.ensures) (cand-near a.home.order (get_or a.targets.now.slots a.j 0) c.loop-c.c (omega arith)))
     (c.passes.ensures.so c.if-passes.true)
 
-pub loop-c-preserved : goal.loop-c-preserved
-loop-c-preserved c =
-    let a = c.args in
-    record {
-      bound = omega arith;
-      none = fails_more a.home.order a.home.block a.targets.now.count a.targets.now.blocks a.targets.now.slots a.gates.now.slots a.gates.now.gated a.j _ _ c.loop-c.invariant.none c.candidate-q.ensures (c.passes.ensures.not c.if-passes.false);
-    }
-
--- the last candidate fails too
 pub returns-else-passes : goal.returns-else-passes
 returns-else-passes c =
     let a = c.args in
@@ -49,5 +34,3 @@ returns-else-passes c =
     let all = fails_more a.home.order a.home.block a.targets.now.count a.targets.now.blocks a.targets.now.slots a.gates.now.slots a.gates.now.gated a.j _ _ c.loop-c.invariant.none c.candidate-q.ensures (c.passes.ensures.not c.if-passes.false) in
     absurd (some_serves a.home.order a.home.block a.targets.now.count a.targets.now.blocks a.targets.now.slots a.gates.now.gated a.gates.now.slots a.j c.requires (subst (λ (y : ℕ). Fails a.home.order a.home.block a.targets.now.count a.targets.now.blocks a.targets.now.slots a.gates.now.slots a.gates.now.gated a.j y) e all))
 
-pub returns : goal.returns
-returns c = absurd (omega arith)

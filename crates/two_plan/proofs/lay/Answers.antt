@@ -4,23 +4,11 @@ use Rattle.two_plan.specs.Sound.{drawn-from, ring_ready, ring-drawn, trip, some_
 use Rattle.two_plan.proofs.lay.Goals as goal
 use Rattle.two_plan.proofs.lay.Goals.{else-targets-m-via-then-targets-m+else-all_home, else-targets-m-via-else-targets-m}
 
-pub overflow_mul-targets : goal.overflow_mul-targets
-overflow_mul-targets c = omega (arith, c.requires.room)
-
-pub fill-requires : goal.fill-requires
-fill-requires c = omega (arith, c.requires.room)
-
 pub plan-requires : goal.plan-requires
 plan-requires c = ring_ready c.requires _ refl c.fill.ensures c.if-m-eq1.true
 
 pub returns-then-m-eq1 : goal.returns-then-m-eq1
 returns-then-m-eq1 c = ring-drawn c.requires _ refl c.fill.ensures c.if-m-eq1.true c.plan.ensures
-
-pub overflow_add-m : goal.overflow_add-m
-overflow_add-m c = omega (arith, c.requires.high)
-
-pub all_home-requires : goal.all_home-requires
-all_home-requires c = c.requires.high
 
 pub plan-requires-then-all_home : goal.plan-requires-then-all_home
 plan-requires-then-all_home c = trip c.requires _ refl c.fill.ensures c.if-m-eq1.false c.if-targets-m.true (home_yes c.if-all_home.true c.all_home.ensures)

@@ -9,17 +9,11 @@ returns-in_err-request c =
     let p = err_from_is_err_and c.from_residual.result c.from_residual.ensures.1 in
     rw (p.1, p.2) (plan_refused _ _ _ _ c.request.ensures _ _ c.in_err-request.was)
 
-pub short-requires : goal.short-requires
-short-requires c = short_ask _ _ c.args.targets.now _ c.request.ensures c.in_ok-request.was
-
 pub returns-then-short : goal.returns-then-short
 returns-then-short c = plan_short _ _ _ _ c.request.ensures _ _ c.in_ok-request.was c.short.ensures c.if-short.true
 
 pub overflow_cast-order : goal.overflow_cast-order
 overflow_cast-order c = omega (arith, (order_in _ _ c.args.targets.now _ c.request.ensures c.in_ok-request.was).1)
-
-pub places_in-requires : goal.places_in-requires
-places_in-requires c = (short_ask _ _ c.args.targets.now _ c.request.ensures c.in_ok-request.was).0
 
 pub lay-requires : goal.lay-requires
 lay-requires c = asked _ _ _ _ c.request.ensures _ _ c.in_ok-request.was c.short.ensures c.if-short.false _ _ refl c.places_in.ensures

@@ -4,15 +4,6 @@ use Rattle.two_ring.specs.Way.{spot-below, step-few, hops-few}
 use Rattle.two_ring.specs.Sides.{side}
 use Rattle.two_ring.proofs.lay.Goals as goal
 
-pub write-requires : goal.write-requires
-write-requires c =
-    let few = hops-few c.args.right c.args.source c.args.target in (
-      omega (arith, c.spot.ensures, spot-below c.args.source),
-      omega (arith, c.step.ensures, step-few c.args.right),
-      omega (arith, c.hops-n.ensures),
-      omega (arith, c.hops-n.ensures, c.requires),
-    )
-
 pub returns : goal.returns
 returns c =
     side _ _ _ c.requires.0 c.hops-n.ensures c.spot.ensures c.step.ensures c.write.ensures

@@ -3,10 +3,6 @@ use Rattle.std.proofs.Common.{arith, sym, ◌∙◌}
 use Rattle.two_round.specs.Paths.{written_around, written_inner}
 use Rattle.two_round.proofs.write_path.Goals as goal
 
-pub write_round-requires : goal.write_round-requires
-write_round-requires c =
-    (c.requires.0.order, c.requires.0.home-block, c.requires.0.home-slot, c.requires.0.slots c.args.j c.requires.1, omega (arith, c.requires.0.wide, c.requires.2))
-
 pub returns-then-j-around : goal.returns-then-j-around
 returns-then-j-around c = written_around c.requires.0 _ _ _ _ _ _ (c.if-j-around.true ∙ c.around.ensures) c.write_round.ensures
 

@@ -4,14 +4,6 @@ use Rattle.two_write.specs.Walked.{Next, next_lowest}
 use Rattle.two_write.proofs.next.Goals as goal
 
 -- src/lib.rt:12:19
-pub lowest-requires : goal.lowest-requires
-lowest-requires c = λ z. c.requires (xor-zero-eq c.args.u c.args.q z)
-
--- src/lib.rt:12:5
-pub flip-requires : goal.flip-requires
-flip-requires c = c.lowest.ensures.within
-
--- src/lib.rt:8:1
 pub returns : goal.returns
 returns c =
     let a = c.args in

@@ -7,4 +7,4 @@ pub overflow_sub-result : goal.overflow_sub-result
 overflow_sub-result c = omega (arith, hops-length c.args.grid.now c.args.j)
 
 pub returns : goal.returns
-returns c = row_is _ c.args.j _ _ c.requires.1 refl refl (omega arith)
+returns c = row_is _ c.args.j _ _ _ c.requires.1 refl refl (omega arith) (omega arith)

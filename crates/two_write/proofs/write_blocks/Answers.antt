@@ -2,12 +2,6 @@ use Rattle.std.proofs.Common.{refl}
 use Rattle.two_write.specs.Blocks.{crossing-none, crossing-room, crossing-block, crossing-more, crossing_done}
 use Rattle.two_write.proofs.write_blocks.Goals as goal
 
-pub loop-i-init : goal.loop-i-init
-loop-i-init c = λ s0 way. crossing-none _ _ _ _ _ _ _ way
-
-pub exit-door-requires : goal.exit-door-requires
-exit-door-requires c = (c.loop-i-test.true, (_, _, _, _, _, c.requires.1))
-
 pub write_block-next-requires : goal.write_block-next-requires
 write_block-next-requires c =
     let way = c.requires.1 in

@@ -3,9 +3,6 @@ use Rattle.two_write.specs.Blocks.{base_fits}
 use Rattle.two_write.specs.Slots.{slotting_none, slotting_more, slotting_done}
 use Rattle.two_write.proofs.write_slots.Goals as goal
 
-pub loop-i-init : goal.loop-i-init
-loop-i-init c = slotting_none _ _ _ _
-
 pub overflow_add-out : goal.overflow_add-out
 overflow_add-out c =
     omega (arith, base_fits c.requires.0 c.requires.1, c.base-first.ensures, c.requires.2 c.loop-i.i c.loop-i-test.true)

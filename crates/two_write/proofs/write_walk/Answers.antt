@@ -3,10 +3,6 @@ use Rattle.two_write.specs.Walked.{going_none, going_more, going_less, going_don
 use Rattle.two_write.proofs.write_walk.Goals as goal
 
 -- src/lib.rt:22:5
-pub loop-here-init : goal.loop-here-init
-loop-here-init c = going_none _ _ _ _ _ _ c.requires.from
-
--- src/lib.rt:24:18
 pub overflow_add-out : goal.overflow_add-out
 overflow_add-out c = omega (arith, next-below _ c.loop-here.invariant c.requires.to c.next-here.ensures, c.requires.fits)
 
