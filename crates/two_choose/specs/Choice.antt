@@ -1,5 +1,5 @@
 -- The choices of the planner, as the code makes them: what each function may be asked and what it gives. Assumes nothing.
-use Rattle.std.specs.Prelude.{ℕ, zero, suc, ◌+◌, ◌-◌, ◌^◌, ◌≤◌, ◌<◌, ◌≡◌, refl, ◌⊎◌, ◌≢◌, List, Bool, true, false, length, set, replicate}
+use Rattle.std.specs.Prelude.{ℕ, zero, suc, ◌+◌, ◌-◌, ◌^◌, ◌≤◌, ◌<◌, ◌≡◌, refl, ◌⊎◌, ◌≢◌, List, length, set, replicate}
 use Rattle.std.proofs.Common.{sym, ap, ◌∙◌, subst, inl, inr, ⊎_elim, arith, length-set, pow_pos, get_or-set_same, get_or-set_other}
 use Rattle.std.proofs.Math.Decide.{ℕ_discrete}
 use Rattle.std.specs.Int.Bits.{bit_or}
@@ -9,7 +9,7 @@ use Rattle.bits.specs.Laws.{bit-none, clash, flip-other, bit-pow-same, pow-bit, 
 use Rattle.cube_math.specs.Choose.{Chosen, cleared, or-on, or_left, or_right}
 use Rattle.two_math.specs.Gates.{Gates, Near, gates_more}
 use Rattle.two_math.specs.Sort.{Behind, Shared}
-use Rattle.two_gate.specs.Says.{Tells, tells_no, tells_yes, Search, Serves}
+use Rattle.two_gate.specs.Says.{Search, Serves}
 
 -- ---- who needs a gate
 

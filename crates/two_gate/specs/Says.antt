@@ -1,8 +1,8 @@
 -- What the search for a gate slot promises: what may be asked (`Search`), what another target denies of a slot (`Denied`), and that a slot serves
 -- (`Serves`). A candidate that nobody denies serves (`serves`), and one of them does (`some_serves`). Assumes nothing.
-use Rattle.std.specs.Prelude.{ℕ, suc, ◌+◌, ◌^◌, ◌≤◌, ◌<◌, ◌≡◌, refl, ◌⊎◌, ◌≢◌, List, Bool, true, false, not, ◌&&◌, get_or, eqb}
-use Rattle.std.proofs.Common.{sym, ◌∙◌, subst, inl, inr, ⊎_elim, arith, pow_mono, eqb-true, eq-eqb}
-use Rattle.std.proofs.lemmas.Bool.{eqb-false, and_parts, and_from}
+use Rattle.std.specs.Prelude.{ℕ, suc, ◌+◌, ◌^◌, ◌≤◌, ◌<◌, ◌≡◌, refl, ◌⊎◌, ◌≢◌, List, Bool, true, false, not, get_or, eqb}
+use Rattle.std.proofs.Common.{sym, subst, inl, inr, ⊎_elim, arith, pow_mono, eqb-true}
+use Rattle.std.proofs.lemmas.Bool.{eqb-false}
 use Rattle.bits.specs.Bit.{bit, flip}
 use Rattle.bits.specs.Laws.{lt-or, flip-lt}
 use Rattle.two_math.specs.Gates.{Denies, Passes, Near, Gates, cand, cand-near, passes_when, passes_then, gate-found}

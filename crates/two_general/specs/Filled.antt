@@ -1,7 +1,5 @@
 -- Arrays filled index by index: each value below n has its property, and the rest is 0 (`Filled`). Assumes nothing.
-use Rattle.std.specs.Prelude.{ℕ, zero, suc, ◌+◌, ◌%◌, ◌≤◌, ◌<◌, ◌≡◌, refl, Bool, true, false, List, [], ◌∷◌, length, set}
-use Rattle.std.proofs.Common.{sym, ◌∙◌, subst, mod-lt, arith, length-set, get_or-set_same, get_or-set_other}
-use Rattle.std.proofs.Math.Decide.{ℕ_discrete}
+use Rattle.std.specs.Prelude.{ℕ, zero, suc, ◌≤◌, ◌<◌, ◌≡◌, refl, Bool, true, false, List, [], ◌∷◌, length}
 use Rattle.cube_math.specs.Masks.{at}
 use Rattle.scan.specs.Laws.{true-false}
 

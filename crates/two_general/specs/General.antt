@@ -1,6 +1,6 @@
 -- A sound request of order 2 to 5, taken apart and planned (`general_draws`, `general_drawn`). Assumes nothing.
-use Rattle.std.specs.Prelude.{ℕ, ◌+◌, ◌*◌, ◌^◌, ◌≤◌, ◌<◌, ◌≡◌, ◌⊎◌, ◌≢◌, List, length}
-use Rattle.std.proofs.Common.{sym, ◌∙◌, subst, inl, inr, ⊎_elim, arith, pow_mono, pow_pos}
+use Rattle.std.specs.Prelude.{ℕ, ◌+◌, ◌*◌, ◌≤◌, ◌<◌, ◌≡◌, ◌⊎◌, ◌≢◌, List, length}
+use Rattle.std.proofs.Common.{sym, ◌∙◌, subst, inl, inr, ⊎_elim}
 use Rattle.cube_math.specs.Masks.{at}
 use Rattle.two_parts.specs.Two.{two, block_of, slot_of}
 use Rattle.two_math.specs.Assemble.{most}

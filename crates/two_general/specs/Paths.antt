@@ -1,6 +1,6 @@
 -- All paths written: what must be chosen before (`Held`), what each path is (`Pathed`), and one of them in its places (`Put`). Assumes nothing.
 use Rattle.std.specs.Prelude.{ℕ, suc, ◌+◌, ◌-◌, ◌*◌, ◌^◌, ◌≤◌, ◌<◌, ◌≡◌, refl, ◌≢◌, Bool, true, false, not, List, ◌∷◌, ◌++◌, Option, length, get_or, set, take, eqb}
-use Rattle.std.proofs.Common.{sym, ap, ◌∙◌, subst, inr, ⊎_elim, arith, length-take, length-append, pow_mono, eq-eqb}
+use Rattle.std.proofs.Common.{sym, ap, ◌∙◌, inr, ⊎_elim, arith, length-take, length-append, pow_mono, eq-eqb}
 use Rattle.std.proofs.lemmas.List.Edits.{sets}
 use Rattle.std.specs.Int.Count.{ones, ones-ones}
 use Rattle.cube_math.specs.Masks.{at}
@@ -20,9 +20,9 @@ use Rattle.two_choose.specs.declared.Choice.{Choice}
 use Rattle.two_takeover.specs.declared.Taken as taken
 use Rattle.two_write.specs.Row.{hops}
 use Rattle.two_write.specs.Slots.{Below}
-use Rattle.two_write.specs.Rows.{Drawing, drawing_none, drawing_more, row_room}
+use Rattle.two_write.specs.Rows.{Drawing, drawing_more}
 use Rattle.two_rows.specs.Rows.{Gives}
-use Rattle.two_general.specs.Draft.{State, who_of, Leaves, Inside}
+use Rattle.two_general.specs.Draft.{State, who_of, Leaves}
 use Rattle.two_general.specs.Legs.{Leg, slots-below}
 use Rattle.two_general.specs.Path.{head_if, head-on, head_off, PathAsk, Wrote}
 

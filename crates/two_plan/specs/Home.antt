@@ -1,8 +1,5 @@
 -- Whether all targets stand in the source's block (`Home`). Assumes nothing.
-use Rattle.std.specs.Prelude.{ℕ, ◌<◌, ◌≡◌, refl, Bool, true, false, MatchBool, ◌≢◌, List, length, get_or}
-use Rattle.std.specs.List.{AllWithin, HoldsAt}
-use Rattle.std.proofs.Common.{sym, ◌∙◌, arith}
-use Rattle.scan.specs.Laws.{true-false}
+use Rattle.std.specs.Prelude.{ℕ, ◌<◌, ◌≡◌, Bool, true, false, ◌≢◌, List, length, get_or}
 use Rattle.two_parts.specs.Two.{block_of}
 
 -- ---- the source's block

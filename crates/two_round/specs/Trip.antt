@@ -1,7 +1,7 @@
 -- What the round trip may be asked (`Trip`), what the cube planner is then asked (`trip_asked`), and what is settled before the paths are
 -- written (`Course`). Assumes nothing.
-use Rattle.std.specs.Prelude.{ℕ, suc, ◌+◌, ◌-◌, ◌*◌, ◌^◌, ◌≤◌, ◌<◌, ◌≡◌, List, length, get_or, set}
-use Rattle.std.proofs.Common.{sym, ◌∙◌, subst, ⊎_elim, mul-le-mul_left, arith, length-set, pow_pos, get_or-set_same, get_or-set_other, below_more}
+use Rattle.std.specs.Prelude.{ℕ, suc, ◌+◌, ◌-◌, ◌*◌, ◌^◌, ◌≤◌, ◌<◌, ◌≡◌, List, length, get_or}
+use Rattle.std.proofs.Common.{sym, ◌∙◌, subst, ⊎_elim, mul-le-mul_left, arith, pow_pos}
 use Rattle.std.specs.Int.Count.{ones, ones-ones}
 use Rattle.cube_math.specs.Masks.{at}
 use Rattle.bits.specs.Bit.{bit}

@@ -1,11 +1,11 @@
 -- The tail of a path that takes over: the walk in the crowd's block up to the first target that it meets. Assumes nothing.
-use Rattle.std.specs.Prelude.{ℕ, suc, ◌+◌, ◌-◌, ◌^◌, ◌≤◌, ◌<◌, ◌≡◌, refl, ◌⊎◌, ◌≢◌, List, [], ◌∷◌, ◌++◌, Option, Some, None, length, set, take}
+use Rattle.std.specs.Prelude.{ℕ, suc, ◌+◌, ◌-◌, ◌^◌, ◌≤◌, ◌<◌, ◌≡◌, ◌⊎◌, ◌≢◌, List, [], ◌∷◌, ◌++◌, Option, Some, None, length, set, take}
 use Rattle.std.proofs.Common.{sym, ap, ◌∙◌, subst, inl, inr, arith, add-one, length-set, length-append, take-suc-set}
 use Rattle.bits.specs.Bit.{bit, flip}
 use Rattle.bits.specs.Laws.{flip-lt}
 use Rattle.cube_math.specs.Single.{rank, rank_less}
 use Rattle.two_math.specs.Crowd.{Cut}
-use Rattle.two_math.specs.Loops.{Strolling, strolling_none, strolling_more, strolling_short, Unhit, unhit_none, unhit_more, strolling_cut}
+use Rattle.two_math.specs.Loops.{Strolling, strolling_more, strolling_short, Unhit, unhit_more, strolling_cut}
 use Rattle.two_write.specs.Walked.{Next, dim-below}
 use Rattle.two_takeover.specs.Over.{Hit, Met}
 

@@ -1,13 +1,12 @@
 -- The search for whoever takes over, whole: what may be asked (`OverAsk`), and what it gives (`Over`). Assumes nothing.
-use Rattle.std.specs.Prelude.{ℕ, ◌+◌, ◌-◌, ◌^◌, ◌≤◌, ◌<◌, ◌≡◌, refl, List, ◌∷◌, Option, Some, None, length, take}
-use Rattle.std.proofs.Common.{sym, ap, subst, ◌∙◌, inr, arith}
+use Rattle.std.specs.Prelude.{ℕ, ◌+◌, ◌-◌, ◌^◌, ◌≤◌, ◌<◌, ◌≡◌, List, ◌∷◌, Option, Some, None, length, take}
 use Rattle.cube_math.specs.Masks.{at}
 use Rattle.bits.specs.Bit.{bit, flip}
 use Rattle.cube_math.specs.Doors.{Walk}
 use Rattle.two_write.specs.Row.{hops}
 use Rattle.two_takeover.specs.declared.Taken.{Taken}
-use Rattle.two_takeover.specs.Over.{Crowds, CrowdBy, LastAsk, Enters}
-use Rattle.two_takeover.specs.Tail.{TailAsk, Tailed}
+use Rattle.two_takeover.specs.Over.{Crowds, CrowdBy, Enters}
+use Rattle.two_takeover.specs.Tail.{Tailed}
 
 pub record OverAsk (m s0 p0 k : ℕ) (blocks slots gates : List ℕ) (gated reps : ℕ) (g : List ℕ) : Type 0 where
   pub order : m ≤ 5

@@ -2,7 +2,7 @@
 use Rattle.std.proofs.Common.{sym, subst, Bool}
 use Rattle.two_math.specs.Sort.{Behind}
 use Rattle.two_gate.specs.Says.{Tells, tells_no}
-use Rattle.two_choose.specs.Masks.{behind_bit, behind_none, pow-some}
+use Rattle.two_choose.specs.Masks.{behind_bit, behind_none}
 use Rattle.two_choose.proofs.behind.Goals as goal
 
 pub returns-then-one_bit : goal.returns-then-one_bit

@@ -1,7 +1,7 @@
 -- `two_choose::choose` meets its contract: each call is asked what the calls before it give. Assumes nothing.
-use Rattle.std.proofs.Common.{ℕ, refl, bit_and, ◌-◌, ◌^◌, ◌∙◌, ap, one-mul, arith, pow_pos, shl_exact}
+use Rattle.std.proofs.Common.{ℕ, refl, bit_and, ◌-◌, ◌^◌, ◌∙◌, ap, one-mul, arith, shl_exact}
 use Rattle.cube_math.specs.Masks.{less}
-use Rattle.two_choose.specs.Chosen.{asks_few, small_below, crowd_small, inner_few, gate_ask, straight_few, ajar_few, reps_few, door_ask, chose}
+use Rattle.two_choose.specs.Chosen.{small_below, crowd_small, inner_few, gate_ask, straight_few, ajar_few, reps_few, door_ask, chose}
 use Rattle.two_choose.proofs.choose.Goals as goal
 
 pub values-kept-requires : goal.values-kept-requires

@@ -1,6 +1,6 @@
 use Rattle.std.proofs.Common.{ℕ, refl, subst}
 use Rattle.two_choose.specs.Masks.{fewer}
-use Rattle.two_choose.specs.Choice.{Gating, gating_none, gating_search, gating_small, gating_more, gating_done}
+use Rattle.two_choose.specs.Choice.{Gating, gating_none, gating_more, gating_done}
 use Rattle.two_choose.proofs.gates_of.Goals as goal
 
 pub loop-todo-init : goal.loop-todo-init

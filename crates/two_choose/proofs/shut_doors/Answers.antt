@@ -1,6 +1,6 @@
-use Rattle.std.proofs.Common.{ℕ, ◌-◌, ◌≡◌, sym, subst, arith, pow_pos}
+use Rattle.std.proofs.Common.{ℕ, ◌-◌, sym, subst, arith}
 use Rattle.two_math.specs.Shut.{Opening, opening-none}
-use Rattle.two_choose.specs.Doors.{door-left, door-below, door-more}
+use Rattle.two_choose.specs.Doors.{door-left, door-more}
 use Rattle.two_choose.proofs.shut_doors.Goals as goal
 
 pub loop-i-init : goal.loop-i-init
@@ -14,4 +14,3 @@ next_door-requires c = (omega (arith, c.requires), door-left c.requires c.loop-i
 pub loop-i-preserved : goal.loop-i-preserved
 loop-i-preserved c =
     door-more c.requires c.loop-i.invariant c.loop-i-test.true _ _ c.next_door.ensures c.flip-shut.ensures
-

@@ -33,4 +33,3 @@ returns-else-passes c =
     let e : c.loop-c.c + 1 ≡ suc a.home.order = omega arith in
     let all = fails_more a.home.order a.home.block a.targets.now.count a.targets.now.blocks a.targets.now.slots a.gates.now.slots a.gates.now.gated a.j _ _ c.loop-c.invariant.none c.candidate-q.ensures (c.passes.ensures.not c.if-passes.false) in
     absurd (some_serves a.home.order a.home.block a.targets.now.count a.targets.now.blocks a.targets.now.slots a.gates.now.gated a.gates.now.slots a.j c.requires (subst (λ (y : ℕ). Fails a.home.order a.home.block a.targets.now.count a.targets.now.blocks a.targets.now.slots a.gates.now.slots a.gates.now.gated a.j y) e all))
-

@@ -1,5 +1,5 @@
 -- `two_plan::lay` meets its contract: one of three ways, over filled places. Assumes nothing.
-use Rattle.std.proofs.Common.{refl, arith}
+use Rattle.std.proofs.Common.{refl}
 use Rattle.two_plan.specs.Sound.{drawn-from, ring_ready, ring-drawn, trip, some_out, few, home_yes, home_no}
 use Rattle.two_plan.proofs.lay.Goals as goal
 use Rattle.two_plan.proofs.lay.Goals.{else-targets-m-via-then-targets-m+else-all_home, else-targets-m-via-else-targets-m}

@@ -1,7 +1,7 @@
 -- `two_plan::plan` meets its contract: what is refused, or what `lay` draws. Assumes nothing.
 use Rattle.std.proofs.Common.{refl, arith}
 use Rattle.std.proofs.lemmas.Result.{err_from_is_err_and}
-use Rattle.two_plan.specs.Steps.{order_in, short_ask, plan_refused, plan_short, asked, plan_laid}
+use Rattle.two_plan.specs.Steps.{order_in, plan_refused, plan_short, asked, plan_laid}
 use Rattle.two_plan.proofs.plan.Goals as goal
 
 pub returns-in_err-request : goal.returns-in_err-request

@@ -1,6 +1,4 @@
 -- `two_ring::lay` meets its contract. Assumes nothing.
-use Rattle.std.proofs.Common.{arith}
-use Rattle.two_ring.specs.Way.{spot-below, step-few, hops-few}
 use Rattle.two_ring.specs.Sides.{side}
 use Rattle.two_ring.proofs.lay.Goals as goal
 

@@ -1,6 +1,6 @@
 -- `two_ring::plan` meets its contract. Assumes nothing.
-use Rattle.std.proofs.Common.{refl, ap₂, ltb, rules}
-use Rattle.two_ring.specs.Sides.{ready_side, one-drawn, two-drawn}
+use Rattle.std.proofs.Common.{ap₂, ltb}
+use Rattle.two_ring.specs.Sides.{one-drawn, two-drawn}
 use Rattle.two_ring.proofs.plan.Goals as goal
 
 pub returns-then-targets-eq1 : goal.returns-then-targets-eq1

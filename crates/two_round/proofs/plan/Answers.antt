@@ -1,6 +1,6 @@
-use Rattle.std.proofs.Common.{arith, pow_pos}
+use Rattle.std.proofs.Common.{arith}
 use Rattle.two_round.specs.Trip.{trip_asked, trip_finds}
-use Rattle.two_round.specs.Going.{going_none, going_asks, going_more, going_done}
+use Rattle.two_round.specs.Going.{going_none, going_more, going_done}
 use Rattle.two_round.proofs.plan.Goals as goal
 
 pub plan_rows-requires : goal.plan_rows-requires

@@ -1,5 +1,5 @@
 -- `two_round::write_path` meets its contract: the path goes around, or is a part of a row. Assumes nothing.
-use Rattle.std.proofs.Common.{arith, sym, ◌∙◌}
+use Rattle.std.proofs.Common.{sym, ◌∙◌}
 use Rattle.two_round.specs.Paths.{written_around, written_inner}
 use Rattle.two_round.proofs.write_path.Goals as goal
 

@@ -1,5 +1,4 @@
 use Rattle.std.proofs.Common.{ℕ, sym, subst}
-use Rattle.bits.specs.Laws.{xor-zero-eq}
 use Rattle.two_write.specs.Walked.{Next, next_lowest}
 use Rattle.two_write.proofs.next.Goals as goal
 

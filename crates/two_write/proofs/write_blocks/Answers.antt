@@ -1,5 +1,5 @@
 use Rattle.std.proofs.Common.{refl}
-use Rattle.two_write.specs.Blocks.{crossing-none, crossing-room, crossing-block, crossing-more, crossing_done}
+use Rattle.two_write.specs.Blocks.{crossing-room, crossing-block, crossing-more, crossing_done}
 use Rattle.two_write.proofs.write_blocks.Goals as goal
 
 pub write_block-next-requires : goal.write_block-next-requires

@@ -1,6 +1,6 @@
 use Rattle.std.proofs.Common.{arith}
 use Rattle.two_write.specs.Blocks.{base_fits}
-use Rattle.two_write.specs.Slots.{slotting_none, slotting_more, slotting_done}
+use Rattle.two_write.specs.Slots.{slotting_more, slotting_done}
 use Rattle.two_write.proofs.write_slots.Goals as goal
 
 pub overflow_add-out : goal.overflow_add-out

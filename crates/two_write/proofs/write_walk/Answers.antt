@@ -1,5 +1,5 @@
 use Rattle.std.proofs.Common.{arith}
-use Rattle.two_write.specs.Walked.{going_none, going_more, going_less, going_done, going_room, next-below}
+use Rattle.two_write.specs.Walked.{going_more, going_less, going_done, going_room, next-below}
 use Rattle.two_write.proofs.write_walk.Goals as goal
 
 -- src/lib.rt:22:5
