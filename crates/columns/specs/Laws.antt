@@ -1,7 +1,7 @@
 -- A column being filled from its front, a place a turn (`Filling`), and the tests and counts of the loops that fill one; what code has of one path (`stopped-told`,
 -- `whole-told`). Assumes nothing.
 use Rattle.std.specs.Prelude.{ℕ, zero, suc, ◌+◌, ◌-◌, ◌≤◌, ◌<◌, ◌≡◌, refl, Bool, true, false, ◌||◌, List, [], ◌∷◌, ◌++◌, length, take, drop, set, get_or}
-use Rattle.std.proofs.Common.{sym, ◌∙◌, append_assoc, add-one, arith, length-set, length-drop, length-append, take-suc, drop-cons}
+use Rattle.std.proofs.Common.{sym, ◌∙◌, append_assoc, add-one, arith, length-set, length-drop, length-append, drop-cons}
 use Rattle.std.proofs.Math.Path.{ap, ap₂}
 use Rattle.std.proofs.Math.Bool.{not}
 use Rattle.std.proofs.Math.Decide.{ℕ_discrete}

@@ -1,7 +1,7 @@
 -- Laws of what is judged: want of room is told last, so where something else stands against it room does not matter (`asked_alike`), and where nothing
 -- does there is room for its paths (`asked_passed`); what is told, as code goes through it (`told_refused`, `told-short`, `told_granted`). A bundle's
 -- room and faults are those that the mesh tells (`bundle_cramped`, `bundle_against_lem`). Assumes nothing.
-use Rattle.std.specs.Prelude.{ℕ, zero, suc, ◌+◌, ◌*◌, ◌≤◌, ◌≡◌, refl, Bool, true, false, List, ◌∷◌, ◌++◌, ltb, length, take, replicate}
+use Rattle.std.specs.Prelude.{ℕ, zero, suc, ◌*◌, ◌≤◌, ◌≡◌, refl, Bool, true, false, List, ◌∷◌, ◌++◌, ltb, length, take, replicate}
 use Rattle.std.proofs.Common.{sym, ap, ◌∙◌, arith, ltb-false}
 use Rattle.std.proofs.Math.Option.{Option, none, some}
 use Rattle.std.proofs.lemmas.List.{length-replicate}

@@ -1,6 +1,6 @@
 -- Main theorems: nothing is found exactly when nothing stands against what is asked and the slices hold a fan (`judged-fan`, `fan-judged`) or, in the
 -- other mode, a bundle (`judged_bundle`, `bundle_judged`). Assumes nothing.
-use Rattle.std.specs.Prelude.{ℕ, ◌≡◌, Bool, true, List, Result, Ok, Err, ⊤, length}
+use Rattle.std.specs.Prelude.{ℕ, ◌≡◌, Bool, true, List, Result, Ok, ⊤, length}
 use Rattle.std.proofs.Common.{sym, ap, ap₂, ◌∙◌}
 use Rattle.std.proofs.Math.Option.{Option, none}
 use Rattle.scan.specs.Scan.{pick}

@@ -2,7 +2,7 @@
 -- (`judged_least`; of a bundle `judged_bundle_least`); and a plain route that is told, of two relays in a mesh of any size and kind, written over a slice of fillers, is a fan of one target that
 -- it passes (`route-judged`). Assumes nothing.
 use Prim.Native.Nat.{ℕ, zero, suc, ◌+◌, ◌*◌, ◌≤◌, ◌<◌}
-use Rattle.std.specs.Prelude.{◌≡◌, refl, Bool, true, false, ◌≢◌, Result, Ok, Err, ⊤, List, [], ◌∷◌, length, drop, get_or}
+use Rattle.std.specs.Prelude.{◌≡◌, refl, Bool, true, false, ◌≢◌, Result, Ok, ⊤, List, [], ◌∷◌, length, drop, get_or}
 use Rattle.std.proofs.Common.{sym, ap, ◌∙◌, subst, length-append, length-drop, ne_eqb, le-ltb}
 use Rattle.std.proofs.Math.Option.{none}
 use native.Mathlib.Omega.{arith}
@@ -12,7 +12,7 @@ use Rattle.scan.specs.Laws.{none-seek, false-among}
 use Rattle.answers.specs.Order.{is_out, is_same, is_again, first_at}
 use Rattle.answers.specs.Told.{told}
 use Rattle.paths.specs.Mesh.{width}
-use Rattle.paths.specs.Fan.{filler, Fan, hops}
+use Rattle.paths.specs.Fan.{filler, hops}
 use Rattle.paths.specs.Walk.{node}
 use Rattle.paths.specs.Walk as walk
 use Rattle.paths.specs.Walks.{route-length}

@@ -39,7 +39,13 @@ pub fn judge_bundle_with(
 // where W is `mesh.bundle_places()`, and its hops stand in the counts at i. In the cube of 2 dimensions, from 0 to 1, the places 0 1 F F F 0 2 3 1 F
 // (F is 2^64 - 1) and the counts 1 3 hold a bundle; with the path 0 1 twice the finding is 24 on path 1 at place 1. Refuses with 1, 52, 2, 5, 6, 8. What
 // lies beyond the paths is not looked at.
-pub fn judge_bundle(mesh: Mesh, source: u64, target: u64, places: &[u64], counts: &[u64]) -> Result<(), Fault>
+pub fn judge_bundle(
+    mesh: Mesh,
+    source: u64,
+    target: u64,
+    places: &[u64],
+    counts: &[u64],
+) -> Result<(), Fault>
     ensures { specs.verdict_told result ≡ specs.bundle_told (kind_of mesh.kind) mesh.size source target places.now counts.now false }
 {
     judge_bundle_with(mesh, source, target, places, counts, false)

@@ -67,7 +67,13 @@ pub fn judge_with(
 // at place i * W, where W is `mesh.places()`, and its hops stand in the counts at i. In the cube of 2 dimensions, from 0 to 3 and 1, the places
 // 0 2 3 F 0 1 F F (F is 2^64 - 1) and the counts 2 1 hold a fan; with 3 for the second 0 the finding is 21 on path 1. Refuses with 1 to 8. What
 // lies beyond the paths is not looked at.
-pub fn judge(mesh: Mesh, source: u64, targets: &[u64], places: &[u64], counts: &[u64]) -> Result<(), Fault>
+pub fn judge(
+    mesh: Mesh,
+    source: u64,
+    targets: &[u64],
+    places: &[u64],
+    counts: &[u64],
+) -> Result<(), Fault>
     ensures { specs.verdict_told result ≡ specs.judge_told (kind_of mesh.kind) mesh.size source targets.now places.now counts.now false }
 {
     judge_with(mesh, source, targets, places, counts, false)

@@ -1,6 +1,6 @@
 -- Why survivors keeps its promise: what it is to give where the judge finds nothing (`ready`, `survived`) and where not (`found_survived`,
 -- `refused_survived`), of a fan or a bundle. Assumes nothing.
-use Rattle.std.specs.Prelude.{ℕ, ◌*◌, ◌≤◌, ◌≡◌, refl, Bool, true, false, ◌≢◌, List, Ok, Err, ltb, length}
+use Rattle.std.specs.Prelude.{ℕ, ◌≤◌, ◌≡◌, refl, Bool, true, false, ◌≢◌, List, Ok, Err, ltb, length}
 use Rattle.std.proofs.Common.{sym, ap, ap₂, ◌∙◌, subst, arith, ltb-false}
 use Rattle.std.proofs.Math.Option.{Option, none, some}
 use Rattle.std.proofs.lemmas.List.{length-replicate}

@@ -1,20 +1,20 @@
 -- Survivors with zones: what carrying zones into their column asks (`Carried`), and why the promise with zones follows from the one without (`zoned_carried`, `zoned_survived`). Assumes nothing.
-use Rattle.std.specs.Prelude.{ℕ, ◌≤◌, ◌≡◌, refl, Bool, true, false, List, Ok, Err, ltb, length, take}
-use Rattle.std.proofs.Common.{sym, ap, ap₂, ◌∙◌, arith, ltb-false}
+use Rattle.std.specs.Prelude.{ℕ, ◌≡◌, refl, Bool, true, List, Ok, Err, ltb, length, take}
+use Rattle.std.proofs.Common.{sym, ap, ◌∙◌, arith, ltb-false}
 use Rattle.std.proofs.Math.Option.{Option, none}
 use Rattle.scan.specs.Scan.{pick, count}
 use Rattle.answers.specs.Order as order
 use Rattle.answers.specs.declared.Refusal.{Refusal}
 use Rattle.paths.specs.Rules.{span}
-use Rattle.paths.specs.Finding.{Finding, clean}
+use Rattle.paths.specs.Finding.{Finding}
 use Rattle.paths.specs.Whole.{Failed, whole}
 use Rattle.mesh.specs.Requests.{neither_wanting}
-use Rattle.judge.specs.Says.{ruling, number_of, rule, verdict_told, Asked, asked_against, asked_finding}
+use Rattle.judge.specs.Says.{number_of, rule, verdict_told, Asked, asked_against, asked_finding}
 use Rattle.judge.specs.Asked.{Passed, asked_alike}
 use Rattle.judge.specs.Numbers.{fault_number}
 use Rattle.columns.specs.Needs.{Copied}
 use Rattle.columns.specs.Says.{ahead, marks}
-use Rattle.survivors.specs.Tally.{Tally, Tallied, tallied, ruling_of, verdict_of}
+use Rattle.survivors.specs.Tally.{Tally, tallied, ruling_of, verdict_of}
 use Rattle.survivors.specs.Says.{few, settled, lacking, Survived, scarce, counted, wanting_of, SurvivedZoned}
 use Rattle.survivors.specs.Laws.{settled_is, settled-not, judged_clean, judged_passed}
 

@@ -1,5 +1,5 @@
 -- `columns::bundle_paths` meets its contract. Assumes nothing.
-use Rattle.std.proofs.Common.{ℕ, sym, ap, ◌∙◌, Bool, rules}
+use Rattle.std.proofs.Common.{ℕ, sym, ap, ◌∙◌, Bool}
 use Rattle.scan.specs.Scan.{pick}
 use Rattle.mesh.specs.Kinds.{mesh_of}
 use Rattle.columns.proofs.bundle_paths.Goals as goal

@@ -1,4 +1,4 @@
-use Rattle.std.proofs.Common.{sym, ◌∙◌}
+use Rattle.std.proofs.Common.{◌∙◌}
 use Rattle.columns.specs.Laws.{cut-here, cut-later, cut-none}
 use Rattle.columns.proofs.cut.Goals as goal
 

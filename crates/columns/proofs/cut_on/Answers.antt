@@ -1,8 +1,8 @@
-use Rattle.std.proofs.Common.{◌-◌, sym, ap, [], arith, rules}
+use Rattle.std.proofs.Common.{sym, ap, [], arith}
 use Rattle.scan.specs.Scan.{found, any}
-use Rattle.scan.specs.Laws.{Passed, passed_start, passed_more, passed_at, passed_all}
+use Rattle.scan.specs.Laws.{passed_start, passed_more, passed_at, passed_all}
 use Rattle.paths.specs.Fan.{hops}
-use Rattle.paths.specs.Whole.{failed, severs}
+use Rattle.paths.specs.Whole.{failed}
 use Rattle.struck.specs.Laws.{cut-struck}
 use Rattle.columns.specs.Laws.{cut-told}
 use Rattle.columns.proofs.cut_on.Goals as goal

@@ -1,5 +1,5 @@
 -- `columns::fill` meets its contract: each column is filled by its own call. Assumes nothing.
-use Rattle.std.proofs.Common.{ℕ, ◌∙◌, ap, List, length, rules}
+use Rattle.std.proofs.Common.{ℕ, ◌∙◌, ap, List, length}
 use lib.Seq.{take-length}
 use Rattle.columns.specs.Says.{ahead}
 use Rattle.columns.proofs.fill.Goals as goal

@@ -1,8 +1,8 @@
-use Rattle.std.proofs.Common.{◌+◌, ◌-◌, sym, ap, [], arith, rules}
+use Rattle.std.proofs.Common.{sym, ap, [], arith}
 use Rattle.scan.specs.Scan.{found, any}
-use Rattle.scan.specs.Laws.{Passed, passed_start, passed_more, passed_at, passed_all}
+use Rattle.scan.specs.Laws.{passed_start, passed_more, passed_at, passed_all}
 use Rattle.paths.specs.Fan.{hops}
-use Rattle.paths.specs.Whole.{failed, stops}
+use Rattle.paths.specs.Whole.{failed}
 use Rattle.struck.specs.Laws.{stop_struck}
 use Rattle.columns.specs.Laws.{stop_told}
 use Rattle.columns.proofs.stopped_on.Goals as goal

@@ -1,7 +1,6 @@
 -- `columns::whole` meets its contract: its relays, then its links. Assumes nothing.
-use Rattle.std.proofs.Common.{ap, ◌∙◌, sym}
+use Rattle.std.proofs.Common.{ap, ◌∙◌}
 use Rattle.std.proofs.Math.Bool.{not}
-use Rattle.std.proofs.lemmas.Bool.{not-true}
 use Rattle.columns.specs.Laws.{stopped-told, whole-told}
 use Rattle.columns.proofs.whole.Goals as goal
 

@@ -1,9 +1,8 @@
 -- `entries::store` meets its contract: each turn puts one entry more at the front. Assumes nothing.
-use Rattle.std.proofs.Common.{ℕ, ◌≡◌, ◌++◌, ◌∙◌, ap, List, drop, refl, arith}
+use Rattle.std.proofs.Common.{ℕ, ◌≡◌, ◌++◌, ◌∙◌, ap, drop, refl, arith}
 use Rattle.entries.specs.Says.{entries}
 use Rattle.entries.specs.Gathered.{entry_at}
 use Rattle.entries.specs.Filling.{none_yet, one_entry}
-use Rattle.entries.specs.declared.Entry.{Entry}
 use Rattle.entries.proofs.store.Goals as goal
 
 pub loop-i-init : goal.loop-i-init

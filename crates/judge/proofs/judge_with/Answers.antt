@@ -30,8 +30,9 @@ returns-then-lacking c =
     let q = asked a.mesh.kind a.mesh.size a.source a.targets.now in
     told-short q a.places.now a.counts.now a.lacking c.in_ok-request.ensures
     (elim c.then-lacking.branch [
-      then-lacking-via-then-lacking w ↦ by_lack q a.places.now a.counts.now a.lacking w.if-lacking.true
-    | then-lacking-via-else-lacking+then-short w ↦ by_short q a.places.now a.counts.now a.lacking w.if-lacking.false w.short.ensures w.if-short.true ])
+      | then-lacking-via-then-lacking w ↦ by_lack q a.places.now a.counts.now a.lacking w.if-lacking.true
+      | then-lacking-via-else-lacking+then-short w ↦ by_short q a.places.now a.counts.now a.lacking w.if-lacking.false w.short.ensures w.if-short.true
+    ])
 
 pub places_in-requires : goal.places_in-requires
 places_in-requires c =

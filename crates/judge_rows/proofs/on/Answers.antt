@@ -1,5 +1,5 @@
 -- `judge_rows::on` meets its contract: the path lies within the places. Assumes nothing.
-use Rattle.std.proofs.Common.{arith, rules}
+use Rattle.std.proofs.Common.{arith}
 use Rattle.paths.specs.Fan.{hops}
 use Rattle.paths.specs.Finding.{on}
 use Rattle.judge_rows.proofs.on.Goals as goal

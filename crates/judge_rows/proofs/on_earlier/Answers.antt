@@ -1,7 +1,6 @@
-use Rattle.std.proofs.Common.{◌-◌, sym, ap, ◌∙◌, arith, rules}
+use Rattle.std.proofs.Common.{sym, ap, ◌∙◌, arith}
 use Rattle.scan.specs.Scan.{found, any}
-use Rattle.scan.specs.Laws.{Passed, passed_start, passed_more, passed_at, passed_all}
-use Rattle.paths.specs.Finding.{on}
+use Rattle.scan.specs.Laws.{passed_start, passed_more, passed_at, passed_all}
 use Rattle.judge_rows.proofs.on_earlier.Goals as goal
 
 pub loop-j-init : goal.loop-j-init

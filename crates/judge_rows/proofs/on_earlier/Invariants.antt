@@ -1,7 +1,5 @@
 -- `judge_rows::on_earlier` meets its contract: the invariant is that x stands on none of the paths passed. Assumes nothing.
-use Rattle.std.proofs.Common.{◌-◌, sym, ap, ◌∙◌, arith, rules}
-use Rattle.scan.specs.Scan.{found, any}
-use Rattle.scan.specs.Laws.{Passed, passed_start, passed_more, passed_at, passed_all}
+use Rattle.scan.specs.Laws.{Passed}
 use Rattle.paths.specs.Finding.{on}
 use Rattle.judge_rows.proofs.on_earlier.Given as goal
 

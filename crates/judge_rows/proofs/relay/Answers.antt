@@ -1,5 +1,5 @@
 -- `judge_rows::relay` meets its contract. Assumes nothing.
-use Rattle.std.proofs.Common.{refl, rules}
+use Rattle.std.proofs.Common.{refl}
 use Rattle.paths.specs.Fan.{relay}
 use Rattle.judge_rows.proofs.relay.Goals as goal
 

@@ -1,5 +1,5 @@
 -- `judge_rows::seen` meets its contract. Assumes nothing.
-use Rattle.std.proofs.Common.{refl, arith, rules}
+use Rattle.std.proofs.Common.{refl, arith}
 use Rattle.paths.specs.Fan.{hops}
 use Rattle.judge_rows.specs.Laws.{seen-on_this, seen-excepted, seen-before}
 use Rattle.judge_rows.specs.Rules.{rules_of}

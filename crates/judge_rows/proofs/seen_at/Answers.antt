@@ -1,11 +1,7 @@
-use Rattle.std.proofs.Common.{ℕ, ◌+◌, ◌-◌, refl, sym, ◌∙◌, List, arith, rules}
+use Rattle.std.proofs.Common.{◌+◌, refl, sym, ◌∙◌, arith}
 use Rattle.marks.specs.Noted.{noted_more, noted_row}
-use Rattle.scan.specs.Laws.{Passed, passed_start, passed_more, passed_at, passed_all, nowhere_at}
+use Rattle.scan.specs.Laws.{passed_start, passed_more, passed_at, passed_all, nowhere_at}
 use Rattle.paths.specs.Fan.{relay, hops}
-use Rattle.paths.specs.Finding.{seen}
-use Rattle.judge_rows.specs.Rules.{rules_of}
-use Rattle.judge_rows.specs.Looked.{Looked}
-use Rattle.judge_rows.specs.declared.Rules.{Rules}
 use Rattle.judge_rows.proofs.seen_at.Goals as goal
 
 pub loop-p-init : goal.loop-p-init

@@ -1,8 +1,6 @@
 -- `judge_rows::seen_at` meets its contract: the invariant is that no relay passed was seen before, and that those passed are marked. Assumes nothing.
-use Rattle.std.proofs.Common.{ℕ, ◌+◌, ◌-◌, refl, sym, ◌∙◌, List, arith, rules}
-use Rattle.marks.specs.Noted.{noted_more, noted_row}
-use Rattle.scan.specs.Laws.{Passed, passed_start, passed_more, passed_at, passed_all, nowhere_at}
-use Rattle.paths.specs.Fan.{relay, hops}
+use Rattle.std.proofs.Common.{ℕ, ◌+◌, List}
+use Rattle.scan.specs.Laws.{Passed}
 use Rattle.paths.specs.Finding.{seen}
 use Rattle.judge_rows.specs.Rules.{rules_of}
 use Rattle.judge_rows.specs.Looked.{Looked}

@@ -1,5 +1,5 @@
 -- `judge_rows::twinned` meets its contract: of a fan no path is a twin, of a bundle a bare link is one of every other. Assumes nothing.
-use Rattle.std.proofs.Common.{sym, ◌∙◌, ap, eqb, ◌&&◌, Bool, arith}
+use Rattle.std.proofs.Common.{sym, ◌∙◌}
 use Rattle.judge_rows.specs.Laws.{twinned-fan, twinned-not, twinned_bare}
 use Rattle.judge_rows.proofs.twinned.Goals as goal
 

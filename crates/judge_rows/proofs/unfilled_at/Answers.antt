@@ -1,6 +1,5 @@
-use Rattle.std.proofs.Common.{◌+◌, ◌-◌, sym, arith, rules}
-use Rattle.scan.specs.Laws.{Passed, passed_start, passed_more, passed_at, passed_all}
-use Rattle.paths.specs.Finding.{unfilled}
+use Rattle.std.proofs.Common.{sym, arith}
+use Rattle.scan.specs.Laws.{passed_start, passed_more, passed_at, passed_all}
 use Rattle.judge_rows.specs.Laws.{not_filled, filled}
 use Rattle.judge_rows.proofs.unfilled_at.Goals as goal
 

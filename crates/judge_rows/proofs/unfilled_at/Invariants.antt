@@ -1,8 +1,7 @@
 -- `judge_rows::unfilled_at` meets its contract: the invariant is that each place passed is filled. Assumes nothing.
-use Rattle.std.proofs.Common.{◌+◌, ◌-◌, sym, arith, rules}
-use Rattle.scan.specs.Laws.{Passed, passed_start, passed_more, passed_at, passed_all}
+use Rattle.std.proofs.Common.{◌+◌, ◌-◌}
+use Rattle.scan.specs.Laws.{Passed}
 use Rattle.paths.specs.Finding.{unfilled}
-use Rattle.judge_rows.specs.Laws.{not_filled, filled}
 use Rattle.judge_rows.proofs.unfilled_at.Given as goal
 
 abbrev pub invariant-loop-p : goal.invariant-loop-p

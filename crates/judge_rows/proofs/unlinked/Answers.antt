@@ -1,6 +1,5 @@
 -- `judge_rows::unlinked` meets its contract. Assumes nothing.
 use Rattle.std.proofs.Common.{◌∙◌, le-leb}
-use borrow.Author.Tests.{lt-leb}
 use Rattle.judge_rows.specs.Laws.{out_of_range, in_range}
 use Rattle.judge_rows.specs.Rules.{rules_of}
 use Rattle.judge_rows.proofs.unlinked.Goals as goal

@@ -1,7 +1,5 @@
-use Rattle.std.proofs.Common.{◌+◌, ◌-◌, sym, ◌∙◌, arith, rules}
-use Rattle.scan.specs.Laws.{Passed, passed_start, passed_more, passed_at, passed_all}
-use Rattle.paths.specs.Finding.{unlinked}
-use Rattle.judge_rows.specs.Rules.{rules_of}
+use Rattle.std.proofs.Common.{sym, ◌∙◌, arith}
+use Rattle.scan.specs.Laws.{passed_start, passed_more, passed_at, passed_all}
 use Rattle.judge_rows.proofs.unlinked_at.Goals as goal
 
 pub relays_in-relays-requires : goal.relays_in-relays-requires

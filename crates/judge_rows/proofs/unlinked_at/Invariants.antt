@@ -1,6 +1,5 @@
 -- `judge_rows::unlinked_at` meets its contract: the invariant is that each relay passed is linked to the one before. Assumes nothing.
-use Rattle.std.proofs.Common.{◌+◌, ◌-◌, sym, ◌∙◌, arith, rules}
-use Rattle.scan.specs.Laws.{Passed, passed_start, passed_more, passed_at, passed_all}
+use Rattle.scan.specs.Laws.{Passed}
 use Rattle.paths.specs.Finding.{unlinked}
 use Rattle.judge_rows.specs.Rules.{rules_of}
 use Rattle.judge_rows.proofs.unlinked_at.Given as goal

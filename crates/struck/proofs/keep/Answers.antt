@@ -1,5 +1,5 @@
 -- `struck::keep` meets its contract: x is marked, or the paths don't have it. Assumes nothing.
-use Rattle.std.proofs.Common.{refl, sym, ◌∙◌, rules}
+use Rattle.std.proofs.Common.{refl, sym, ◌∙◌}
 use Rattle.struck.specs.Laws.{kept_put, kept_same}
 use Rattle.struck.proofs.keep.Goals as goal
 

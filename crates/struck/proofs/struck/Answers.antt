@@ -1,5 +1,4 @@
 -- `struck::struck` meets its contract: what the paths have is marked, and then what of it is listed. Assumes nothing.
-use Rattle.std.proofs.Common.{rules}
 use Rattle.struck.specs.Laws.{struck-none, struck-all}
 use Rattle.struck.proofs.struck.Goals as goal
 

@@ -1,5 +1,5 @@
 -- `entries::gathered::gather` meets its contract: the plain function's columns, of as many places as there is room for. Assumes nothing.
-use Rattle.std.proofs.Common.{sym, refl, rules}
+use Rattle.std.proofs.Common.{sym, refl}
 use Rattle.paths.specs.Whole.{failed}
 use Rattle.mesh.specs.Kinds.{kind_of}
 use Rattle.judge.specs.Says.{fan_asked}

@@ -1,5 +1,5 @@
 -- `entries::gathered::gather_bundle` meets its contract: the plain function's columns of a bundle, of as many places as there is room for. Assumes nothing.
-use Rattle.std.proofs.Common.{sym, refl, ◌∙◌, rules}
+use Rattle.std.proofs.Common.{sym, refl, ◌∙◌}
 use lib.ListN.{length-replicate}
 use Rattle.paths.specs.Whole.{failed}
 use Rattle.mesh.specs.Kinds.{kind_of, mesh_of}

@@ -4,7 +4,6 @@ use Rattle.std.proofs.Common.{ℕ, ◌≤◌, ◌≡◌, sym, ap, ◌∙◌, Lis
 use mathlib.Core.Option.{none}
 use Rattle.std.proofs.lemmas.Result.{err_from_is_err_and}
 use Rattle.paths.specs.Finding.{finding_by}
-use Rattle.paths.specs.Bundles.{ends_at}
 use Rattle.mesh.specs.Kinds.{kind_of, mesh_of}
 use Rattle.mesh.specs.Limits.{most_links, ends-links}
 use Rattle.mesh.specs.Requests.{Ends, ends-fine}
@@ -32,9 +31,10 @@ returns-then-lacking c =
     let same = bundle_cramped (kind_of a.mesh.kind) a.mesh.size a.source a.target a.places.now a.counts.now in
     told-short q a.places.now a.counts.now a.lacking c.in_ok-ends.ensures
     (elim c.then-lacking.branch [
-      then-lacking-via-then-lacking w ↦ by_lack q a.places.now a.counts.now a.lacking w.if-lacking.true
-    | then-lacking-via-else-lacking+then-bundle_short w ↦
-        by_short q a.places.now a.counts.now a.lacking w.if-lacking.false (w.bundle_short.ensures ∙ sym same) w.if-bundle_short.true ])
+      | then-lacking-via-then-lacking w ↦ by_lack q a.places.now a.counts.now a.lacking w.if-lacking.true
+      | then-lacking-via-else-lacking+then-bundle_short w ↦
+          by_short q a.places.now a.counts.now a.lacking w.if-lacking.false (w.bundle_short.ensures ∙ sym same) w.if-bundle_short.true
+    ])
 
 pub bundle_places_in-requires : goal.bundle_places_in-requires
 bundle_places_in-requires c = let a = c.args in (ends-fine (kind_of a.mesh.kind) a.mesh.size a.source a.target (sym c.in_ok-ends.ensures)).known

@@ -7,7 +7,7 @@ use Rattle.paths.specs.Whole.{Failed, failed}
 use Rattle.mesh.specs.Kinds.{kind_of, mesh_of}
 use Rattle.mesh.specs.Limits.{most_links, ends-links}
 use Rattle.mesh.specs.Requests.{ends-fine}
-use Rattle.judge.specs.Says.{Ruling, ruling, Asked, bundle_asked, asked_told}
+use Rattle.judge.specs.Says.{ruling, Asked, bundle_asked, asked_told}
 use Rattle.judge.specs.Asked.{ends-cut}
 use Rattle.columns.specs.Says.{bundle_paths}
 use Rattle.survivors.specs.Says.{lacking}

@@ -1,5 +1,5 @@
 -- `survivors::zones::bundle_survivors` meets its contract: the three columns, and then the fourth. Assumes nothing.
-use Rattle.std.proofs.Common.{refl, sym, ◌∙◌, rules}
+use Rattle.std.proofs.Common.{sym, ◌∙◌}
 use lib.ListN.{length-replicate}
 use Rattle.paths.specs.Whole.{failed}
 use Rattle.mesh.specs.Kinds.{kind_of, mesh_of}

@@ -1,5 +1,5 @@
 -- `survivors::zones::survivors` meets its contract: the three columns, and then the fourth. Assumes nothing.
-use Rattle.std.proofs.Common.{refl, rules}
+use Rattle.std.proofs.Common.{refl}
 use Rattle.paths.specs.Whole.{failed}
 use Rattle.mesh.specs.Kinds.{kind_of}
 use Rattle.judge.specs.Says.{fan_asked}
