@@ -1,14 +1,11 @@
 -- What the writer owes at each of its ends. Assumes nothing.
-use Rattle.std.specs.Prelude.{ℕ, ◌+◌, ◌*◌, ◌/◌, ◌≤◌, ◌<◌, ◌≡◌, Bool, ltb, length, drop, set, Result, Ok, Err, ⊤}
-use Rattle.std.proofs.Common.{sym, ap₂, ◌∙◌, arith, lt-ltb, le-ltb}
+use Rattle.std.specs.Prelude.{ℕ, ◌+◌, ◌*◌, ◌/◌, ◌≤◌, ◌<◌, ◌≡◌, ltb, length, drop, set, Ok, ⊤}
+use Rattle.std.proofs.Common.{sym, ap₂, ◌∙◌, arith, le-ltb}
 use Rattle.std.proofs.Math.Path.{ap, refl}
 use mathlib.Core.List.{List, [], ◌∷◌, ◌++◌}
-use Rattle.std.proofs.Math.Option.{none, some}
+use Rattle.std.proofs.Math.Option.{none}
 use Rattle.answers.specs.Order.{first}
-use Rattle.answers.specs.Pairs.{lent_refused, lent-short, lent-fine}
-use Rattle.answers.specs.Told.{tell, against}
-use Rattle.answers.specs.declared.Refusal.{Refusal}
-use Rattle.answers.specs.declared.Refusal.TheVariants.{NoRoom}
+use Rattle.answers.specs.Pairs.{lent-fine}
 use Rattle.decimal.specs.Write.{Put, put_long, put_then, put_byte, put_as}
 use Rattle.line.specs.Text.{spaced, line_end}
 use Rattle.line_put.specs.Writes.{put_front, first-room, then_room}
@@ -16,8 +13,8 @@ use Rattle.mesh.specs.Kinds.{kind_of, mesh_of}
 use Rattle.dimacs.specs.Text.{edge, counts_word, pair_text, edge_text, edges_text, each, row, edges, link_count, graph_text}
 use Rattle.dimacs.specs.Rows.{onward}
 use Rattle.dimacs.specs.Pieces.{Eaching, each-room, each_all, onward-text, onward_blank}
-use Rattle.dimacs.specs.Needs.{Exported, Rowed, Linking, link_of, row-links, near_small, all-rows, export_fine}
-use Rattle.dimacs.specs.Says.{export_faults_in, write_told, write_leaves}
+use Rattle.dimacs.specs.Needs.{Rowed, Linking, link_of, row-links, near_small, all-rows}
+use Rattle.dimacs.specs.Says.{export_faults_in, write_leaves}
 use Rattle.dimacs_size.specs.Sizes.{Rows}
 
 -- ---- a line
