@@ -1,5 +1,5 @@
 -- The judge sees the paths of the sheet (`judged-sheet`). Assumes nothing.
-use Rattle.std.specs.Prelude.{ℕ, ◌+◌, ◌*◌, ◌≡◌, ◌≢◌, Bool, false, List, length, take}
+use Rattle.std.specs.Prelude.{ℕ, ◌+◌, ◌*◌, ◌≡◌, Bool, false, List, length, take}
 use Rattle.std.proofs.Common.{sym, ap, ap₂, ◌∙◌, refl}
 use Rattle.std.proofs.Math.Option.{none, some}
 use Rattle.scan.specs.Scan.{pick}

@@ -57,7 +57,13 @@ fn judged_in(
         targets,
     );
     let end = k * (longest + 1);
-    match judge::judge(head.mesh, head.source, &targets[..k], &places[..end], &counts[..k]) {
+    match judge::judge(
+        head.mesh,
+        head.source,
+        &targets[..k],
+        &places[..end],
+        &counts[..k],
+    ) {
         Ok(()) => Ok(()),
         Err(fault) => Err(flaw_in(fault)),
     }

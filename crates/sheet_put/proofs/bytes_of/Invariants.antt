@@ -1,7 +1,5 @@
 -- `sheet_put::bytes_of` meets its contract: the invariant is that i counts are summed. Assumes nothing.
-use Rattle.std.proofs.Common.{◌-◌, refl, arith, rules}
-use Rattle.sheet_put.specs.Total.{Summed, summed_starts, summed_small, summed_more, summed_ends}
-use Rattle.sheet.specs.Lengths.{head_bounds}
+use Rattle.sheet_put.specs.Total.{Summed}
 use Rattle.sheet.specs.Says.{version_number}
 use Rattle.sheet_put.proofs.bytes_of.Given as goal
 

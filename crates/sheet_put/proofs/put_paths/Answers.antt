@@ -1,4 +1,4 @@
-use Rattle.std.proofs.Common.{refl, ap, ◌∙◌, arith, add_assoc}
+use Rattle.std.proofs.Common.{refl, ap, ◌∙◌, arith}
 use Rattle.sheet.specs.Format.{head}
 use Rattle.sheet_put.specs.Putting.{laying_starts, laying_room, laying_more}
 use Rattle.sheet_put.proofs.put_paths.Goals as goal

@@ -1,8 +1,6 @@
 -- `sheet_put::put_paths` meets its contract: the invariant is that i paths are written. Assumes nothing.
-use Rattle.std.proofs.Common.{◌-◌, refl, arith, rules}
-use Rattle.sheet_put.specs.Putting.{Laying, laying_starts, laying_room, laying_more, laying_ends}
+use Rattle.sheet_put.specs.Putting.{Laying}
 use Rattle.sheet.specs.Says.{version_number}
-use Rattle.sheet_put.proofs.put_path.Reads as put-path-reads
 use Rattle.sheet_put.proofs.put_paths.Given as goal
 
 abbrev pub invariant-loop-i : goal.invariant-loop-i

@@ -1,5 +1,5 @@
 -- `sheet_check::body::judged_in` meets its contract: the judge is lent what was taken, and no more. Assumes nothing.
-use Rattle.std.proofs.Common.{sym, ap, ◌∙◌, arith}
+use Rattle.std.proofs.Common.{ap, ◌∙◌}
 use Rattle.std.proofs.Math.Option.{some}
 use Rattle.sheet_check.specs.Judged.{fault_ruled, judged-sheet}
 use Rattle.sheet_check.specs.Says.{ruled}
