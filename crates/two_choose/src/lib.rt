@@ -63,6 +63,7 @@ fn values(vals: &[u32; 8], set: u64) -> u64
     requires { Few set × Small vals.now }
     ensures { Used (λ j a. at vals.now j ≡ a) set result }
 {
+    // Stays: no index is counted here or in the other loops over a mask's members, which take its lowest bit until none is left.
     let mut todo = set;
     let mut r: u64 = 0;
     while todo != 0 {

@@ -297,6 +297,7 @@ fn write_paths(
 }
 
 // The mask of n dimensions.
+// Stays: `cube_split` has the same for itself, and to lend it from there would be no plainer than this one line.
 fn dimensions(n: u32) -> u64
     requires { n < 64 }
     ensures { result ≡ 2 ^ n - 1 }

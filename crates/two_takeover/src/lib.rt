@@ -99,6 +99,7 @@ fn tail_of(m: u32, targets: &Targets, gates: &Gates, b: u64, enter: u32, to: u32
 {
     let mut slots = [0u64; 8];
     slots[0] = u64::from(enter);
+    // Stays: the loop ends where a target is met, and only its end tells how many slots that took.
     let mut len = 1;
     let mut here = enter;
     loop {

@@ -21,6 +21,7 @@ pub fn write_walk(m: u32, base: u64, p: u64, q: u64, at: usize, out: &mut [u64])
     ensures { Walked m base p q at out.old out.new result }
 {
     let mut here = p;
+    // Stays: the loop ends at a slot, and only its end tells how many places that took.
     let mut i = at;
     while here != q {
         here = next(here, q);
