@@ -1,14 +1,13 @@
 -- The second count of a file is how many `e` lines it has (`edges-count`): each link has two ends, and each relay has as many links as the size says. Assumes nothing.
-use Rattle.std.specs.Prelude.{ℕ, zero, suc, ◌+◌, ◌*◌, ◌/◌, ◌≤◌, ◌<◌, ◌≡◌, refl, Bool, true, false, ◌&&◌, ◌⊎◌, List, [], ◌∷◌, ◌++◌, ltb}
-use Rattle.std.proofs.Common.{sym, ap, ap₂, ◌∙◌, inl, inr, arith, add_assoc, length-append, lt-ltb, le-ltb}
+use Rattle.std.specs.Prelude.{ℕ, zero, suc, ◌+◌, ◌*◌, ◌<◌, ◌≡◌, refl, Bool, true, false, ◌&&◌, ◌⊎◌, List, [], ◌∷◌, ltb}
+use Rattle.std.proofs.Common.{sym, ap, ap₂, ◌∙◌, inl, inr, arith, length-append, lt-ltb, le-ltb}
 use Rattle.std.proofs.Math.ListN.{length}
 use Rattle.bits.specs.Laws.{lt-or}
 use Rattle.scan.specs.Scan.{pick, count}
-use Rattle.scan.specs.Counts.{count_same}
-use Rattle.scan.specs.Laws.{true-false, count-on, count_off, count_none}
+use Rattle.scan.specs.Laws.{count-on, count_off, count_none}
 use Rattle.paths.specs.Mesh.{Mesh}
 use Rattle.paths.specs.Links.{Links, links-count}
-use Rattle.dimacs.specs.Text.{Edge, edge, each, upward, row, edges, link_count}
+use Rattle.dimacs.specs.Text.{edge, each, upward, row, edges, link_count}
 use Rattle.dimacs.specs.Rows.{each_none, each_more}
 
 -- 1 for yes

@@ -1,6 +1,6 @@
 -- A list of `e` lines is a mesh (`IsMesh`) where each of its lines is a link, and each link stands in it once, in either direction. That is so exactly where the reader finds no wrong line and no link missing
 -- (`reads_mesh`, `mesh_reads`); the order of the lines, and the direction of each, do not matter (`shuffled-mesh`). Assumes nothing.
-use Rattle.std.specs.Prelude.{ℕ, zero, suc, ◌+◌, ◌-◌, ◌≤◌, ◌<◌, ◌≡◌, Bool, ◌&&◌, ◌⊎◌, eqb, ltb}
+use Rattle.std.specs.Prelude.{ℕ, suc, ◌+◌, ◌-◌, ◌≤◌, ◌<◌, ◌≡◌, Bool, ◌&&◌, ◌⊎◌, ltb}
 use Rattle.std.proofs.Math.Path.{refl, ap}
 use Rattle.std.proofs.Common.{sym, ◌∙◌, inl, inr}
 use Rattle.std.proofs.Math.Bool.{true, false, not}
@@ -10,7 +10,7 @@ use native.Mathlib.Omega.{arith}
 use borrow.Author.Tests.{ltb-true, ltb-false, lt-ltb, le-ltb}
 use borrow.Author.Tests as tests
 use Rattle.bits.specs.Laws.{lt-or}
-use Rattle.scan.specs.Scan.{Spot, nowhere, at, pick, any}
+use Rattle.scan.specs.Scan.{nowhere, at, pick, any}
 use Rattle.scan.specs.Laws.{true-or, true-false, not-true, both_true, any_false, false-any, nowhere_at}
 use Rattle.paths.specs.Mesh.{Mesh}
 use Rattle.paths.specs.Links.{Links}

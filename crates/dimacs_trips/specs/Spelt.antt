@@ -3,7 +3,7 @@
 use Rattle.std.specs.Prelude.{ℕ, zero, suc, ◌+◌, ◌≤◌, ◌<◌, ◌≡◌, refl, Bool, true, false, ◌⊎◌, List, [], ◌∷◌, ◌++◌, eqb, length, drop}
 use Rattle.std.proofs.Common.{sym, ap, ◌∙◌, subst, inl, inr, append_assoc, arith, length-append, eqb-true}
 use Rattle.std.proofs.Math.Option.{Option, none, some}
-use Rattle.scan.specs.Scan.{Spot, nowhere, at, pick}
+use Rattle.scan.specs.Scan.{nowhere, at, pick}
 use Rattle.scan.specs.Laws.{true-or, nowhere_at}
 use Rattle.decimal.specs.Digits.{digits}
 use Rattle.decimal.specs.Number.{limit}
@@ -11,7 +11,7 @@ use Rattle.line.specs.Text.{spaced, line_end}
 use Rattle.line.specs.Parse.{Field, end, item, field, on_field, begins, begins_sound}
 use Rattle.line.specs.Parse as parse
 use Rattle.line.specs.Lines.{item_sound, end_sound}
-use Rattle.dimacs.specs.Text.{Edge, edge, counts_word, edge_word, pair_text}
+use Rattle.dimacs.specs.Text.{edge, counts_word, edge_word, pair_text}
 use Rattle.dimacs.specs.Parse.{Line, comment, counts, link, malformed, Piece, broken, piece, on_piece, skip, comment_of, Pair, unpaired, pair, closed, second, two, piece_of, edge_line, line_at, lines, lines_of}
 use Rattle.dimacs.specs.Says.{malformed_at}
 use Rattle.dimacs_trips.specs.Texts.{pair-bytes}

@@ -1,16 +1,16 @@
 -- A file of a `p` line and `e` lines is read line by line as these (`file-lines`). Assumes nothing.
-use Rattle.std.specs.Prelude.{ℕ, zero, suc, ◌+◌, ◌-◌, ◌≤◌, ◌<◌, ◌≡◌, refl, Bool, true, false, ◌&&◌, eqb, length, drop}
-use Rattle.std.proofs.Common.{sym, ◌∙◌, ⊎_elim, arith, length-append, eq-eqb}
+use Rattle.std.specs.Prelude.{ℕ, zero, suc, ◌+◌, ◌≤◌, ◌<◌, ◌≡◌, refl, true, false, length, drop}
+use Rattle.std.proofs.Common.{◌∙◌, ⊎_elim, arith, length-append, eq-eqb}
 use Rattle.std.proofs.Math.Path.{ap}
 use mathlib.Core.List.{List, [], ◌∷◌, ◌++◌, append_assoc, append-nil}
-use Rattle.scan.specs.Scan.{Spot, nowhere, at, pick}
+use Rattle.scan.specs.Scan.{nowhere}
 use Rattle.scan.specs.Laws.{true-or}
 use Rattle.decimal.specs.Digits.{digits}
-use Rattle.decimal.specs.Number.{Number, got, limit, number, number_complete}
+use Rattle.decimal.specs.Number.{limit, number_complete}
 use Rattle.line.specs.Text.{spaced, line_end}
-use Rattle.line.specs.Parse.{Field, end, item, field_of, field, on_field, field_space, field_end}
+use Rattle.line.specs.Parse.{Field, field_of, field, on_field, field_space, field_end}
 use Rattle.dimacs.specs.Text.{Edge, edge, counts_word, pair_text, edge_text, edges_text}
-use Rattle.dimacs.specs.Parse.{Line, comment, counts, link, malformed, Piece, piece, on_piece, Pair, unpaired, pair, closed, second, two, piece_of, edge_line, line_at, lines, lines_of}
+use Rattle.dimacs.specs.Parse.{Line, counts, link, malformed, Piece, piece, on_piece, unpaired, pair, closed, second, two, piece_of, edge_line, line_at, lines, lines_of}
 use Rattle.dimacs.specs.Says.{malformed_at, counted, same, times, edges_from}
 use Rattle.dimacs.specs.Edges.{all_true, times_none, times-on, times_off}
 

@@ -1,7 +1,7 @@
 -- Which files are read as a mesh. A file is read as yes exactly where every line of it is one, its counts are the mesh's, and its `e` lines are the mesh, each link once (`yes_means`, `means_yes`). What is written is
 -- read as yes (`written_reads`); so is the same file with its `e` lines in any other order and some of them turned (`shuffled_reads`), and any file of well-formed lines, comments among them, with the `e` lines of one
 -- that is, shuffled and turned (`order_free`). Assumes nothing.
-use Rattle.std.specs.Prelude.{ℕ, zero, suc, ◌+◌, ◌*◌, ◌/◌, ◌≤◌, ◌<◌, ◌≡◌, refl, Bool, true, false, List, [], ◌∷◌, ◌++◌, Err}
+use Rattle.std.specs.Prelude.{ℕ, ◌*◌, ◌<◌, ◌≡◌, refl, Bool, true, false, List, [], ◌∷◌, ◌++◌, Err}
 use Rattle.std.proofs.Common.{sym, ap, ◌∙◌, subst, ⊎_elim, arith, mul-le-mul, div-le_self}
 use Rattle.std.proofs.Math.Option.{Option, none, some}
 use Rattle.std.proofs.lemmas.Bool.{eqb-false}
@@ -11,15 +11,14 @@ use Rattle.answers.specs.Order.{first}
 use Rattle.answers.specs.Told.{number}
 use Rattle.answers.specs.Laws.{number-some}
 use Rattle.answers.specs.declared.Refusal.{Refusal}
-use Rattle.paths.specs.Mesh.{Mesh}
 use Rattle.paths.specs.Links.{Links}
 use Rattle.mesh.specs.Kinds.{kind_of, mesh_of}
 use Rattle.decimal.specs.Number.{limit}
 use Rattle.dimacs.specs.Text.{Edge, edge, counts_word, pair_text, edges_text, edges, link_count, graph_text}
 use Rattle.dimacs.specs.Parse.{Line, counts, lines_of}
-use Rattle.dimacs.specs.Says.{export_faults_in, malformed_at, counted, same, times, is_link, wrong_at, edges_from, edges_of, missing, or_malformed, or_wrong, or_refused, judged, read_of, number_of, yes}
+use Rattle.dimacs.specs.Says.{export_faults_in, malformed_at, counted, same, times, wrong_at, edges_of, missing, or_malformed, or_wrong, or_refused, read_of, number_of, yes}
 use Rattle.dimacs.specs.Edges.{same_straight, times-on, times_off, link_sound}
-use Rattle.dimacs.specs.Needs.{Exported, export_fine, export_rising}
+use Rattle.dimacs.specs.Needs.{export_fine, export_rising}
 use Rattle.dimacs.specs.declared.Fault.TheVariants.{WrongCounts, Missing}
 use Rattle.dimacs_trips.specs.Once.{IsMesh, Shuffled, keep, reads_mesh, mesh_reads, same-mesh, shuffled-mesh}
 use Rattle.dimacs_trips.specs.Once as once

@@ -7,7 +7,7 @@ use Rattle.scan.specs.Scan.{pick, any}
 use Rattle.scan.specs.Laws.{false-any}
 use Rattle.answers.specs.Order.{refuse, before}
 use Rattle.answers.specs.Pairs.{room-last}
-use Rattle.answers.specs.Told.{told, against, answer_told}
+use Rattle.answers.specs.Told.{against, answer_told}
 use Rattle.answers.specs.declared.Refusal.{Refusal}
 use Rattle.answers.specs.declared.Refusal.TheVariants.{NoRoom}
 use Rattle.paths.specs.Mesh.{Mesh, width}

@@ -1,6 +1,6 @@
 -- Where something stands against a line, two answers that are promised are the same, in what they tell and in what they leave (`answered_unique`). Where nothing
 -- does, they may differ in the fan: the choice among several is free. Assumes nothing.
-use Rattle.std.specs.Prelude.{ℕ, ◌≡◌, refl, Bool, true, false, List, ◌++◌, ltb, length, drop, Result}
+use Rattle.std.specs.Prelude.{ℕ, ◌≡◌, Bool, true, false, List, ◌++◌, ltb, length, drop, Result}
 use Rattle.std.proofs.Common.{sym, ap, ◌∙◌, subst}
 use Rattle.std.proofs.Math.Option.{Option, none, some}
 use Rattle.answers.specs.Told.{told}
@@ -12,7 +12,7 @@ use Rattle.line.specs.Text.{Request}
 use Rattle.line.specs.Parse.{asked}
 use Rattle.line.specs.Lines.{same_some}
 use Rattle.line.specs.Written.{refused_text}
-use Rattle.reply.specs.Says.{Ruled, fault_of, Answers, Said, reply_room, Replied, AnsweredIn, Answered}
+use Rattle.reply.specs.Says.{Ruled, fault_of, Answers, reply_room, Replied, AnsweredIn, Answered}
 
 -- what stands against a line: 10, or what stands against its request
 abbrev pub fault_in : Option Request → Option Refusal

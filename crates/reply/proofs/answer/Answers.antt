@@ -1,5 +1,5 @@
 -- `reply::answer` meets its contract, by whether there is room and what the line states. Assumes nothing.
-use Rattle.std.proofs.Common.{replicate, length-take-le, refl, sym, rules}
+use Rattle.std.proofs.Common.{replicate, length-take-le, refl, sym}
 use Rattle.reply.specs.Laws.{refusal-said}
 use Rattle.reply.specs.Lines.{line_request, reply_short, reply_refused, reply_request}
 use Rattle.reply.proofs.answer.Goals as goal

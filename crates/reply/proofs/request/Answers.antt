@@ -1,5 +1,5 @@
 -- `reply::request` meets its contract: the planner is lent room for every fan, so what it tells is what stands against the request. Assumes nothing.
-use Rattle.std.proofs.Common.{refl, rules}
+use Rattle.std.proofs.Common.{refl}
 use Rattle.reply.specs.Laws.{refusal-said, plan_refused, plan_known, plan_written}
 use Rattle.reply.proofs.request.Goals as goal
 
