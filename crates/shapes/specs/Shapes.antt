@@ -1,5 +1,5 @@
 -- What the structs that C is given say, by what the library's answers tell. The laws that put a struct together. Assumes nothing.
-use Rattle.std.specs.Prelude.{ℕ, ◌≡◌, Bool, Result, Ok, Err}
+use Rattle.std.specs.Prelude.{ℕ, ◌≡◌, Bool, Result, Ok, Err, ⊤}
 use Rattle.std.proofs.Common.{ap, ap₂, ◌∙◌}
 use Rattle.scan.specs.Scan.{pick}
 use Rattle.answers.specs.Told as told
@@ -125,3 +125,7 @@ arrival-same a b = ap₂ (λ (x : ℕ) (y : Record). record { number = x; newest
 abbrev pub told_in : {R : Type 0} (number path place : R → ℕ) → Result ℕ R → GustAnswer
 told_in number path place (Ok v) = answer 0 0 0 v
 told_in number path place (Err why) = answer (number why) (path why) (place why) 0
+
+abbrev pub reason_in : {R : Type 0} (number path place : R → ℕ) → Result ⊤ R → GustVerdict
+reason_in number path place (Ok x) = record { number = 0; path = 0; place = 0 }
+reason_in number path place (Err why) = record { number = number why; path = path why; place = place why }

@@ -105,6 +105,17 @@ fn of<R: Reason>(answer: Result<u64, R>) -> GustAnswer
     }
 }
 
+// The same where there is no value.
+pub fn of_reason<R: Reason>(checked: Result<(), R>) -> GustVerdict
+    ensures { result ≡ specs.reason_in R.number_told R.path_told R.place_told checked }
+{
+    GustVerdict {
+        number: answers::number(checked),
+        path: answers::path(checked) as u64,
+        place: answers::place(checked) as u64,
+    }
+}
+
 pub fn of_facts(mesh: Mesh) -> GustFacts
     ensures { result ≡ specs.facts_in (kind_of mesh.kind) mesh.size }
 {
@@ -142,11 +153,7 @@ pub fn of_checked(c: Result<(), Refusal>, paths: u64) -> GustAnswer
 pub fn of_verdict(v: Result<(), Fault>) -> GustVerdict
     ensures { result ≡ specs.verdict_in (verdict_told v) }
 {
-    GustVerdict {
-        number: answers::number(v),
-        path: answers::path(v) as u64,
-        place: answers::place(v) as u64,
-    }
+    of_reason(v)
 }
 
 pub fn of_tally(t: Result<u64, Fault>) -> GustAnswer
