@@ -14,6 +14,7 @@ ghost use Rattle.std.specs.Prelude.{◌<◌, length, IfOk};
 use std::io;
 
 // The case that stands at a place; where the next one stands.
+// Stays: a number says who is asked, as it stands in the input.
 fn case(to: &impl Print, list: &[u64], at: usize) -> io::Result<usize>
     requires { at < length list.now }
     ensures { IfOk result (λ next. at < next) }

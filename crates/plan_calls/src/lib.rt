@@ -8,6 +8,7 @@ ghost use Rattle.plan_calls.specs.Called.{Called, CalledThrough};
 use cube::Size;
 
 // `cube_plan::plan` in the cube of n dimensions: the cube's planner alone, for its time and its stack.
+// Stays: here and below the answer is a number, since that is what the call gives to C (`Called`).
 pub fn gustparsley_cube_plan(
     n: u64,
     source: u64,

@@ -12,6 +12,7 @@ use answers::Refusal;
 use mesh::Mesh;
 
 // A fan for a request that was checked, and has room. Inner: who calls it has looked for 1, 52, 2 to 8.
+// Stays: the kind is compared, and the mesh not taken apart by its shape, since a mesh that is planned is a cube or else two-level, and a `match` would have two arms that are never reached.
 pub fn lay(mesh: Mesh, source: u64, targets: &[u64], places: &mut [u64], counts: &mut [u64])
     requires { Layable mesh.kind mesh.size source targets.now (length places.old) (length counts.old) }
     ensures { Planned none (mesh_of mesh.kind mesh.size) source targets.now places.old counts.old (Ok tt) places.new counts.new }

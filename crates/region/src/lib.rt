@@ -13,6 +13,7 @@ use answers::{Reason, Refusal};
 use mesh::Mesh;
 
 // A refusal as one number: 5 at place 3 is 1283.
+// Stays: here and in `sheets` an answer is a number, since that is what the two calls give to C (`Planned`, `Stepped`).
 pub fn code(why: Refusal) -> u64
     requires { place why < 256 }
     ensures { result ≡ code_of (some why) }
