@@ -137,6 +137,10 @@ module _ {m s0 : ℕ} {path : List ℕ} {leave last at size : ℕ} (w : Ways m s
         goes = λ z. d.2 ∙ ap (flip (get_or path i 0)) (sym same);
       }
 
+  -- the last block is left by the last slot
+  pub exit_last : (i : ℕ) → i + 1 ≡ length path → Exit m path last i last
+  exit_last i e = record { within = w.last_in; ends = λ z. refl; goes = λ z. absurd (omega arith) }
+
 module _ (m s0 : ℕ) (path : List ℕ) (leave last at : ℕ) (was : List ℕ) (w : Ways m s0 path leave last at (length was)) where
   pub crossing-none : Crossing m s0 path leave last at was was leave at 0
   crossing-none = record {

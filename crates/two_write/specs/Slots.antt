@@ -1,6 +1,6 @@
 -- Slots of one block, written as relays one after another. Assumes nothing.
 use Rattle.std.specs.Prelude.{ℕ, ◌+◌, ◌*◌, ◌^◌, ◌≤◌, ◌<◌, ◌≡◌, refl, List, [], ◌∷◌, ◌++◌, length, get_or, take, set}
-use Rattle.std.proofs.Common.{sym, ap, ◌∙◌, add-one, arith, length-set, length-take, take-suc, take_all}
+use Rattle.std.proofs.Common.{sym, ap, ◌∙◌, subst, add-one, arith, length-set, length-take, take-suc, take_all}
 use Rattle.std.proofs.lemmas.List.Edits.{sets}
 use Rattle.two_math.specs.Relays.{inside}
 use Rattle.two_math.specs.Numbers.{numbers}
@@ -45,3 +45,7 @@ slotting_done {base} {l} {at} {was} {now} {i} m b e k h =
       wrote = k.wrote ∙ ap (λ (y : List ℕ). sets was at (relays base y)) (take_all i l h) ∙ ap (λ (y : ℕ). sets was at (relays y l)) e ∙ ap (sets was at) (sym (relays-numbers m b l));
       next = refl;
     }
+
+-- all of them
+pub slotted_all : {m b : ℕ} {l : List ℕ} {at : ℕ} {was now : List ℕ} {r : ℕ} (n : ℕ) → n ≡ length l → Slotted m b (take n l) at was now r → Slotted m b l at was now r
+slotted_all {m} {b} {l} {at} {was} {now} {r} n e s = subst (λ (y : List ℕ). Slotted m b y at was now r) (take_all n l (omega arith)) s
