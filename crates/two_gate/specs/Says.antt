@@ -37,6 +37,10 @@ tells_no n = record { so = λ e. absurd (never false e refl); not = λ e. n }
 pub tells_yes : {A : Type 0} → A → Tells A true
 tells_yes a = record { so = λ e. a; not = λ e. absurd (never true refl e) }
 
+-- a test of two numbers tells it
+pub tells-same : {A : Type 0} (x y : ℕ) → (x ≡ y → A) → (A → x ≡ y) → Tells A (eqb x y)
+tells-same x y f g = record { so = λ e. f (eqb-true x y e); not = λ e a. eqb-false x y e (g a) }
+
 pub tells_differ : {A : Type 0} (x y : ℕ) → (x ≢ y → A) → (x ≡ y → A → ⊥) → Tells A (not (eqb x y))
 tells_differ {A} x y f g = by (eqb x y) (eqb-true x y) (eqb-false x y)
   where
@@ -50,6 +54,14 @@ None A n = (i : ℕ) → i < n → A i → ⊥
 
 pub none_more : (A : ℕ → Type 0) (n : ℕ) → None A n → (A n → ⊥) → None A (n + 1)
 none_more A n h g i l a = ⊎_elim (λ q. h i q a) (λ r. ⊎_elim (λ e. g (subst A e a)) (λ q. absurd (omega arith)) r) (lt-or i n)
+
+-- the last case, where none of those before it is so
+pub denied_last : (s0 bj q bi pi : ℕ) (done : Bool) (qi : ℕ) → flip bj q ≢ bi → ((bi ≡ bj) × (q ≡ pi) → ⊥) → ((bi ≡ s0) × (flip bj q ≡ flip s0 pi) → ⊥)
+    → Denied s0 bj q bi pi done qi → (done ≡ true) × (flip bj q ≡ flip bi qi)
+denied_last s0 bj q bi pi done qi a b c (inl z) = absurd (a z)
+denied_last s0 bj q bi pi done qi a b c (inr (inl z)) = absurd (b z)
+denied_last s0 bj q bi pi done qi a b c (inr (inr (inl z))) = absurd (c z)
+denied_last s0 bj q bi pi done qi a b c (inr (inr (inr z))) = z
 
 abbrev pub Small : List ℕ → Type 0
 Small l = (i : ℕ) → get_or l i 0 < 64
@@ -89,6 +101,14 @@ module _ (m s0 k : ℕ) (blocks slots : List ℕ) (done : ℕ) (gates : List ℕ
   some_serves s none =
       let f = gate-found m s0 k (λ i. get_or blocks i 0) (λ i. get_or slots i 0) done (λ i. get_or gates i 0) s.few s.differ s.before j s.lt s.outer in
       none f.0 f.1 (λ i h d. passes_then m s0 k (λ i. get_or blocks i 0) (λ i. get_or slots i 0) done (λ i. get_or gates i 0) j (cand m (get_or slots j 0) f.0) f.2 i h d.0 (to_denies i (cand m (get_or slots j 0) f.0) d.1))
+
+-- of another target, told by what it denies
+pub tells-other : (s0 : ℕ) (blocks slots gates : List ℕ) (done j q i : ℕ) (b r : Bool) → b ≡ eqb (bit i done) 1 → i ≢ j
+    → Tells (Denied s0 (get_or blocks j 0) q (get_or blocks i 0) (get_or slots i 0) b (get_or gates i 0)) r → Tells (Other s0 blocks slots gates done j q i) r
+tells-other s0 blocks slots gates done j q i b r e ne t = by (subst (λ (y : Bool). Tells (Denied s0 (get_or blocks j 0) q (get_or blocks i 0) (get_or slots i 0) y (get_or gates i 0)) r) e t)
+  where
+    by : Tells (Denied s0 (get_or blocks j 0) q (get_or blocks i 0) (get_or slots i 0) (eqb (bit i done) 1) (get_or gates i 0)) r → Tells (Other s0 blocks slots gates done j q i) r
+    by t = record { so = λ z. (ne, t.so z); not = λ z d. t.not z d.1 }
 
 pub small : (m x : ℕ) → m ≤ 5 → x < 2 ^ m → x < 64
 small m x h g = omega (arith, pow_mono {i = m} {j = 5} h)
