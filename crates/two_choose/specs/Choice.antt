@@ -1,5 +1,5 @@
 -- The choices of the planner, as the code makes them: what each function may be asked and what it gives. Assumes nothing.
-use Rattle.std.specs.Prelude.{ℕ, zero, suc, ◌+◌, ◌-◌, ◌^◌, ◌≤◌, ◌<◌, ◌≡◌, refl, ◌⊎◌, ◌≢◌, List, length, set, replicate}
+use Rattle.std.specs.Prelude.{ℕ, zero, suc, ◌+◌, ◌-◌, ◌^◌, ◌≤◌, ◌<◌, ◌≡◌, refl, ◌⊎◌, ◌≢◌, List, Bool, true, false, length, set, replicate}
 use Rattle.std.proofs.Common.{sym, ap, ◌∙◌, subst, inl, inr, ⊎_elim, arith, length-set, pow_pos, get_or-set_same, get_or-set_other}
 use Rattle.std.proofs.Math.Decide.{ℕ_discrete}
 use Rattle.std.specs.Int.Bits.{bit_or}
@@ -9,7 +9,7 @@ use Rattle.bits.specs.Laws.{bit-none, clash, flip-other, bit-pow-same, pow-bit, 
 use Rattle.cube_math.specs.Choose.{Chosen, cleared, or-on, or_left, or_right}
 use Rattle.two_math.specs.Gates.{Gates, Near, gates_more}
 use Rattle.two_math.specs.Sort.{Behind, Shared}
-use Rattle.two_gate.specs.Says.{Search, Serves}
+use Rattle.two_gate.specs.Says.{Tells, tells_no, tells_yes, Search, Serves}
 
 -- ---- who needs a gate
 
@@ -27,6 +27,16 @@ Gated s0 k tb kept n r = Chosen (IsGated s0 k tb kept) (Plain s0 k tb kept) (2 ^
 module _ (s0 k : ℕ) (tb : ℕ → ℕ) (kept j : ℕ) where
   pub not_gated : (IsGated s0 k tb kept j → ⊥) → Plain s0 k tb kept j
   not_gated n ne = ((λ i h d e. n (ne, inl (i, h, d, e))), (λ a o e. n (ne, inr (a, o, e))))
+
+  -- what tells it: a target at home, one that shares its block, and else a door
+  pub gated_home : tb j ≡ s0 → Tells (IsGated s0 k tb kept j) false
+  gated_home e = tells_no (λ z. z.0 e)
+
+  pub gated_shared : tb j ≢ s0 → Shared k tb j → Tells (IsGated s0 k tb kept j) true
+  gated_shared ne s = tells_yes (ne, inl s)
+
+  pub gated_behind : {r : Bool} → tb j ≢ s0 → (Shared k tb j → ⊥) → Tells (Behind s0 kept (tb j)) r → Tells (IsGated s0 k tb kept j) r
+  gated_behind ne n t = record { so = λ e. (ne, inr (t.so e)); not = λ e z. ⊎_elim n (t.not e) z.1 }
 
 -- those of the first n targets whose block is behind a door of the set
 abbrev pub Hidden : (s0 : ℕ) (tb : ℕ → ℕ) (doors n r : ℕ) → Type 0

@@ -1,7 +1,8 @@
 -- Ends of block paths and the doors that stay shut for them: what the code's arrays and masks hold. Assumes nothing.
-use Rattle.std.specs.Prelude.{ℕ, ◌+◌, ◌-◌, ◌^◌, ◌≤◌, ◌<◌, ◌≡◌, ◌⊎◌, ◌≢◌, List, Bool, true, false, length, eqb}
-use Rattle.std.proofs.Common.{sym, ap, ◌∙◌, subst, inl, inr, ⊎_elim, arith, eq-eqb, ne_eqb}
+use Rattle.std.specs.Prelude.{ℕ, ◌+◌, ◌-◌, ◌^◌, ◌≤◌, ◌<◌, ◌≡◌, ◌⊎◌, ◌≢◌, List, Bool, true, false, length, set, eqb}
+use Rattle.std.proofs.Common.{sym, ap, ◌∙◌, subst, inl, inr, ⊎_elim, arith, length-set, get_or-set_same, get_or-set_other, eq-eqb, ne_eqb}
 use Rattle.std.specs.Int.Count.{ones, ones-ones}
+use Rattle.std.proofs.Math.Decide.{ℕ_discrete}
 use Rattle.bits.specs.Bit.{bit, flip, Lowest}
 use Rattle.bits.specs.Laws.{bit-none, clash}
 use Rattle.cube_math.specs.Masks.{at, less}
@@ -15,6 +16,17 @@ use Rattle.two_math.specs.Shut.{Opening, opening-more, opening-left}
 pub record Blocked (blocks gates : List ℕ) (n : ℕ) (r : List ℕ) : Type 0 where
   pub long : length r ≡ 8
   pub is : (j : ℕ) → j < n → at r j ≡ flip (at blocks j) (at gates j)
+
+-- filled one by one
+pub blocked_none : (blocks gates r : List ℕ) → length r ≡ 8 → Blocked blocks gates 0 r
+blocked_none blocks gates r e = record { long = e; is = λ j h. absurd (omega arith) }
+
+pub blocked_more : {blocks gates : List ℕ} {n : ℕ} {r : List ℕ} (v : ℕ) → Blocked blocks gates n r → n < 8 → v ≡ flip (at blocks n) (at gates n) → Blocked blocks gates (n + 1) (set r n v)
+blocked_more {blocks} {gates} {n} {r} v b h e = record { long = length-set r n v ∙ b.long; is = λ j l. by j l (ℕ_discrete j n) }
+  where
+    by : (j : ℕ) → j < n + 1 → Dec (j ≡ n) → at (set r n v) j ≡ flip (at blocks j) (at gates j)
+    by j l (yes z) = rw z (get_or-set_same r n v 0 (omega (arith, b.long)) ∙ e)
+    by j l (no ne) = get_or-set_other r n j v 0 ne ∙ b.is j (omega arith)
 
 -- ---- the ends
 
@@ -35,6 +47,27 @@ pub record Ended (blocks behind : List ℕ) (gated n : ℕ) (r : List ℕ) : Typ
   pub long : length r ≡ 16
   pub single : (j : ℕ) → j < n → at r j ≡ end_of (at blocks j) (at behind j) (eqb (bit j gated) 1)
   pub crowd : (j : ℕ) → j < n → at r (8 + j) ≡ at blocks j
+
+-- filled two by two
+pub ended_none : (blocks behind : List ℕ) (gated : ℕ) (r : List ℕ) → length r ≡ 16 → Ended blocks behind gated 0 r
+ended_none blocks behind gated r e = record { long = e; single = λ j h. absurd (omega arith); crowd = λ j h. absurd (omega arith) }
+
+pub ended_more : {blocks behind : List ℕ} {gated n : ℕ} {r : List ℕ} (v : ℕ) → Ended blocks behind gated n r → n < 8
+    → v ≡ end_of (at blocks n) (at behind n) (eqb (bit n gated) 1) → Ended blocks behind gated (n + 1) (set (set r n v) (8 + n) (at blocks n))
+ended_more {blocks} {behind} {gated} {n} {r} v b h e = record {
+  long = length-set (set r n v) (8 + n) (at blocks n) ∙ length-set r n v ∙ b.long;
+  single = λ j l. get_or-set_other (set r n v) (8 + n) j (at blocks n) 0 (λ z. omega arith) ∙ one j l (ℕ_discrete j n);
+  crowd = λ j l. two j l (ℕ_discrete j n);
+}
+  where
+    one : (j : ℕ) → j < n + 1 → Dec (j ≡ n) → at (set r n v) j ≡ end_of (at blocks j) (at behind j) (eqb (bit j gated) 1)
+    one j l (yes z) = rw z (get_or-set_same r n v 0 (omega (arith, b.long)) ∙ e)
+    one j l (no ne) = get_or-set_other r n j v 0 ne ∙ b.single j (omega arith)
+
+    two : (j : ℕ) → j < n + 1 → Dec (j ≡ n) → at (set (set r n v) (8 + n) (at blocks n)) (8 + j) ≡ at blocks j
+    two j l (yes z) = rw z (get_or-set_same (set r n v) (8 + n) (at blocks n) 0 (omega (arith, length-set r n v, b.long)))
+    two j l (no ne) =
+        get_or-set_other (set r n v) (8 + n) (8 + j) (at blocks n) 0 (λ z. ne (omega arith)) ∙ get_or-set_other r n (8 + j) v 0 (λ z. omega arith) ∙ b.crowd j (omega arith)
 
 -- ---- the doors
 

@@ -39,6 +39,26 @@ Few s = (j : ℕ) → bit j s ≡ 1 → j < 8
 
 -- ---- members of both sets
 
+-- by what is left of one without the other
+abbrev pub common : ℕ → ℕ → ℕ
+common a b = less a (less a b)
+
+pub common-on : (j a b : ℕ) → bit j (common a b) ≡ 1 → (bit j a ≡ 1) × (bit j b ≡ 1)
+common-on j a b o =
+    let p = less-on j a (less a b) o in
+    (p.0, ⊎_elim (λ z. z) (λ z. absurd (clash p.1 z)) (less-or j a b p.0))
+
+pub on-common : (j a b : ℕ) → bit j a ≡ 1 → bit j b ≡ 1 → bit j (common a b) ≡ 1
+on-common j a b p q = ⊎_elim (λ z. absurd (clash (less-on j a b z).1 q)) (λ z. z) (less-or j a (less a b) p)
+
+-- a test of all, for the members of a set: those that pass, and those that fail
+pub chosen_common : {A B : ℕ → Type 0} {all r : ℕ} (s : ℕ) → ((j : ℕ) → bit j s ≡ 1 → bit j all ≡ 1) → Chosen A B all r → Chosen A B s (common s r)
+chosen_common {A} {B} {all} {r} s sub c = record {
+  sub = λ j o. (common-on j s r o).0;
+  holds = λ j o. c.holds j (common-on j s r o).1;
+  fails = λ j o z. c.fails j (sub j o) (⊎_elim (λ y. y) (λ y. absurd (clash z (on-common j s r o y))) (bit-cases j r));
+}
+
 pub both-on : (j a b : ℕ) → bit j (bit_and a b) ≡ 1 → (bit j a ≡ 1) × (bit j b ≡ 1)
 both-on j a b o = (omega (arith, bit-and j a b, bit-lt j a), omega (arith, bit-and j a b, bit-lt j b))
 
