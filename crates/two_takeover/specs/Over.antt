@@ -1,5 +1,5 @@
 -- Who takes over the block path through the door p0, and by which tail: what the parts of the search give. Assumes nothing.
-use Rattle.std.specs.Prelude.{ℕ, zero, suc, ◌+◌, ◌-◌, ◌^◌, ◌<◌, ◌≡◌, refl, ◌⊎◌, ◌≢◌, Bool, true, List, [], ◌∷◌, ◌++◌, Option, Some, None, length, get_or, eqb}
+use Rattle.std.specs.Prelude.{ℕ, zero, suc, ◌+◌, ◌-◌, ◌*◌, ◌^◌, ◌<◌, ◌≡◌, refl, ◌⊎◌, ◌≢◌, Bool, true, List, [], ◌∷◌, ◌++◌, Option, Some, None, length, get_or, eqb}
 use Rattle.std.proofs.Common.{sym, ap, ◌∙◌, subst, ⊎_elim, arith, length-append, eq-eqb}
 use Rattle.std.proofs.Math.ListN.{get_or-append}
 use Rattle.std.proofs.lemmas.List.{get_or_at}
@@ -12,7 +12,7 @@ use Rattle.cube_math.specs.Doors.{Walk}
 use Rattle.cube_math.specs.Choose.{cleared}
 use Rattle.cube_math.specs.Plain.{full-below}
 use Rattle.bits.specs.Parts.{bit_below}
-use Rattle.two_write.specs.Row.{hops}
+use Rattle.two_write.specs.Row.{hops, hops-length}
 use Rattle.two_math.specs.Loops.{last, walk_split, walk_hop, door-of}
 use Rattle.two_gate.specs.Says.{Tells}
 
@@ -190,3 +190,7 @@ module _ {m s0 p0 end : ℕ} {g : List ℕ} {row : ℕ} (a : LastAsk m s0 p0 end
         where
           one : (n : ℕ) → suc (suc n) - 1 ≡ suc n
           one n = omega arith
+
+-- a row says how many relays it has
+pub row_count : (g : List ℕ) (j : ℕ) → length (hops g j) < 34 → get_or g (j * 35) 0 ≡ length (hops g j)
+row_count g j h = omega (arith, hops-length g j)

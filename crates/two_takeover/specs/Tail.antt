@@ -1,11 +1,11 @@
 -- The tail of a path that takes over: the walk in the crowd's block up to the first target that it meets. Assumes nothing.
-use Rattle.std.specs.Prelude.{ℕ, suc, ◌+◌, ◌-◌, ◌^◌, ◌≤◌, ◌<◌, ◌≡◌, ◌⊎◌, ◌≢◌, List, [], ◌∷◌, ◌++◌, Option, Some, None, length, set, take}
+use Rattle.std.specs.Prelude.{ℕ, suc, ◌+◌, ◌-◌, ◌^◌, ◌≤◌, ◌<◌, ◌≡◌, refl, ◌⊎◌, ◌≢◌, List, [], ◌∷◌, ◌++◌, Option, Some, None, length, set, take}
 use Rattle.std.proofs.Common.{sym, ap, ◌∙◌, subst, inl, inr, arith, add-one, length-set, length-append, take-suc-set}
 use Rattle.bits.specs.Bit.{bit, flip}
 use Rattle.bits.specs.Laws.{flip-lt}
 use Rattle.cube_math.specs.Single.{rank, rank_less}
 use Rattle.two_math.specs.Crowd.{Cut}
-use Rattle.two_math.specs.Loops.{Strolling, strolling_more, strolling_short, Unhit, unhit_more, strolling_cut}
+use Rattle.two_math.specs.Loops.{Strolling, strolling_none, strolling_more, strolling_short, Unhit, unhit_none, unhit_more, strolling_cut}
 use Rattle.two_write.specs.Walked.{Next, dim-below}
 use Rattle.two_takeover.specs.Over.{Hit, Met}
 
@@ -43,6 +43,18 @@ pub take_more : (l : List ℕ) (n v : ℕ) → n < length l → take (n + 1) (se
 take_more l n v h = ap (λ (y : ℕ). take y (set l n v)) (add-one n) ∙ take-suc-set l n v h
 
 module _ {m k : ℕ} {tb tp gate : ℕ → ℕ} {gated b enter to : ℕ} (a : TailAsk m k tb tp gate gated b enter to) where
+  -- the slot that is entered, alone
+  pub tailing_none : {tail : List ℕ} → length tail ≡ 8 → take 1 tail ≡ enter ∷ [] → Tailing m k tb tp gate gated b enter to tail 1 enter
+  tailing_none long is = record {
+    cut = [];
+    going = strolling_none m enter to;
+    unhit = unhit_none (Hit k tb tp gate gated b) enter;
+    is = is;
+    size = refl;
+    long = long;
+    below = a.from;
+  }
+
   module _ {tail : List ℕ} {len here : ℕ} {o : Option ℕ} (t : Tailing m k tb tp gate gated b enter to tail len here) (met : Met k tb tp gate gated b here o) where
     -- nobody is met: it is not there yet
     pub tailing_goes : o ≡ None → here ≢ to
