@@ -11,6 +11,24 @@ use Rattle.two_round.specs.declared.Cut.{Cut}
 abbrev pub Stands : (l : List ℕ) (x : ℕ) → Option ℕ → Type 0
 Stands l x o = MatchOption o (EachIndex l (λ k. slice_index l k ≢ x)) (λ i. (i < length l) × (slice_index l i ≡ x))
 
+-- not in the first i hops
+pub record Looking (l : List ℕ) (x i : ℕ) : Type 0 where
+  pub bound : i ≤ length l
+  pub unmet : (j : ℕ) → j < i → get_or l j 0 ≢ x
+
+-- none, one more; and what the path then does
+pub looking_none : (l : List ℕ) (x : ℕ) → Looking l x 0
+looking_none l x = record { bound = omega arith; unmet = λ j h. absurd (omega arith) }
+
+pub looking_more : {l : List ℕ} {x i : ℕ} (v : ℕ) → Looking l x i → i < length l → v ≡ get_or l i 0 → v ≢ x → Looking l x (i + 1)
+looking_more {l} {x} {i} v k h e ne = record { bound = omega arith; unmet = below_more _ _ k.unmet (λ z. ne (e ∙ z)) }
+
+pub stands_on : {x : ℕ} (l : List ℕ) (v i : ℕ) → i < length l → v ≡ get_or l i 0 → v ≡ x → Stands l x (Some i)
+stands_on l v i h e is = (h, sym e ∙ is)
+
+pub stands_never : {l : List ℕ} {x i : ℕ} → Looking l x i → length l ≤ i → Stands l x None
+stands_never k h = λ j l. k.unmet j (omega arith)
+
 pub never : {x : ℕ} (l : List ℕ) → EachIndex l (λ k. slice_index l k ≢ x) → In x l → ⊥
 never [] f w = w
 never (y ∷ l) f (inl e) = f 0 (omega arith) (sym e)

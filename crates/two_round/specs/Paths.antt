@@ -2,7 +2,7 @@
 -- `trip_drawn`: they are a fan. Assumes nothing.
 use Rattle.std.specs.Prelude.{ℕ, suc, ◌+◌, ◌-◌, ◌*◌, ◌^◌, ◌≤◌, ◌<◌, ◌≡◌, ◌≢◌, List, [], ◌∷◌, ◌++◌, length, get_or, take, set}
 use Rattle.std.proofs.Math.Path.{refl}
-use Rattle.std.proofs.Common.{sym, ap, ◌∙◌, subst, ⊎_elim, add-one, arith}
+use Rattle.std.proofs.Common.{sym, ap, ◌∙◌, subst, ⊎_elim, add-one, arith, length-take, take_all, get_or-take}
 use Rattle.std.proofs.Math.Decide.{ℕ_discrete}
 use Rattle.std.proofs.lemmas.List.Edits.{sets}
 use Rattle.cube_math.specs.Masks.{at}
@@ -11,7 +11,7 @@ use Rattle.bits.specs.Laws.{lt-or-le}
 use Rattle.paths.specs.Mesh.{width}
 use Rattle.cube_math.specs.Doors.{Doors}
 use Rattle.cube_math.specs.Plain.{bit-full}
-use Rattle.two_write.specs.Row.{hops}
+use Rattle.two_write.specs.Row.{hops, hops-length}
 use Rattle.two_parts.specs.Two.{two, block_of, slot_of}
 use Rattle.two_math.specs.Relays.{Relay, inside, length-inside}
 use Rattle.two_math.specs.Through.{Crosses}
@@ -50,6 +50,24 @@ pub record Written (m s s0 p0 w : ℕ) (to : List ℕ) (row n : ℕ) (g : List �
   pub count : counts₁ ≡ set counts j (length path)
 
 module _ {m s0 p0 w : ℕ} {to : List ℕ} {row n : ℕ} {g : List ℕ} (c : Course m s0 p0 w to row n g) (j : ℕ) where
+  -- the last path: the row that is cut
+  pub part_cut : j ≡ m → j ≢ row → Part m row n g j (take n (hops g row))
+  part_cut e ne =
+      let l : row < m = omega (arith, c.row_in) in
+      let size : length (take n (hops g row)) ≤ length (hops g row) = omega (arith, length-take n (hops g row)) in
+      record {
+        few = omega (arith, c.few row l);
+        below = λ i h. let lt : i < n = omega (arith, length-take n (hops g row)) in rw get_or-take (c.below row l i (omega arith));
+        is = sym (when_yes (ℕ_discrete j m) (take n (hops g row)) (hops g j) e);
+      }
+
+  -- any other: its own row, all of it
+  pub part-own : (k : ℕ) → j ≤ m → j ≢ m → k ≡ get_or g (j * 35) 0 → Part m row n g j (take k (hops g j))
+  part-own k h ne e =
+      let l : j < m = omega arith in
+      let all : length (hops g j) ≤ k = omega (arith, hops-length g j, c.few j l, c.order) in
+      rw (take_all k (hops g j) all) (record { few = c.few j l; below = c.below j l; is = sym (when_no (ℕ_discrete j m) (take n (hops g row)) (hops g j) ne) })
+
   pub written_around : (s r : ℕ) (places counts places₁ : List ℕ) → j ≡ row → Rounded m s s0 p0 (at to j) (j * w) places places₁ r
       → Written m s s0 p0 w to row n g j places counts places₁ (set counts j r)
   written_around s r places counts places₁ e d = record {

@@ -1,7 +1,7 @@
 -- What the round trip may be asked (`Trip`), what the cube planner is then asked (`trip_asked`), and what is settled before the paths are
 -- written (`Course`). Assumes nothing.
-use Rattle.std.specs.Prelude.{ℕ, suc, ◌+◌, ◌-◌, ◌*◌, ◌^◌, ◌≤◌, ◌<◌, ◌≡◌, List, length, get_or}
-use Rattle.std.proofs.Common.{sym, ◌∙◌, subst, ⊎_elim, mul-le-mul_left, arith, pow_pos}
+use Rattle.std.specs.Prelude.{ℕ, suc, ◌+◌, ◌-◌, ◌*◌, ◌^◌, ◌≤◌, ◌<◌, ◌≡◌, List, length, get_or, set}
+use Rattle.std.proofs.Common.{sym, ◌∙◌, subst, ⊎_elim, mul-le-mul_left, arith, length-set, pow_pos, get_or-set_same, get_or-set_other, below_more}
 use Rattle.std.specs.Int.Count.{ones, ones-ones}
 use Rattle.cube_math.specs.Masks.{at}
 use Rattle.bits.specs.Bit.{bit}
@@ -42,6 +42,21 @@ pub record Reading (m : ℕ) (targets to : List ℕ) (i : ℕ) : Type 0 where
   pub bound : i ≤ length targets
   pub is : (j : ℕ) → j < i → at to j ≡ slot_of m (get_or targets j 0)
   pub long : length to ≡ 16
+
+-- none, one more, all
+pub reading-none : (m : ℕ) (targets to : List ℕ) → length to ≡ 16 → Reading m targets to 0
+reading-none m targets to h = record { bound = omega arith; is = λ j l. absurd (omega arith); long = h }
+
+pub reading-more : {m : ℕ} {targets to : List ℕ} {i : ℕ} (v : ℕ) → Reading m targets to i → i < length targets → length targets ≤ 16 → v ≡ slot_of m (get_or targets i 0)
+    → Reading m targets (set to i v) (i + 1)
+reading-more {m} {targets} {to} {i} v r h few e = record {
+  bound = omega arith;
+  is = below_more _ _ (λ j l. get_or-set_other to i j v 0 (λ z. omega arith) ∙ r.is j l) (get_or-set_same to i v 0 (omega (arith, r.long)) ∙ e);
+  long = length-set to i v ∙ r.long;
+}
+
+pub reading_done : {m : ℕ} {targets to : List ℕ} {i : ℕ} → Reading m targets to i → length targets ≤ i → Slots m targets to
+reading_done r h = record { is = λ j l. r.is j (omega arith); long = r.long }
 
 -- ---- what the cube planner is asked, and what it gives
 
@@ -98,6 +113,10 @@ module _ {m s w : ℕ} {targets places counts to : List ℕ} (q : Trip m s w tar
     pub trip_fan : Doors m (2 ^ m - 1) p0 0 (2 ^ m - 1) (at to) (hops g₁)
     trip_fan = subst (λ (n : ℕ). Doors n (2 ^ m - 1) p0 0 (2 ^ m - 1) (at to) (hops g₁)) (ones-ones m)
         (subst (λ (y : ℕ). Doors (ones (y - 1)) (y - 1) p0 0 (y - 1) (at to) (hops g₁)) e p.fan)
+
+    -- its grid is whole, and its paths are short
+    trip_long : length g₁ ≡ 560
+    trip_long = p.long
 
     trip_few : (j : ℕ) → j < m → length (hops g₁ j) ≤ m + 1
     trip_few j l = (trip_fan.each j (bit-full m j l)).short
