@@ -12,6 +12,10 @@ use Rattle.two_math.specs.Ring.{at, at-mod, place, right, left, right-short, awa
 unfoldable pub ring : List ℕ
 ring = 0 ∷ 1 ∷ 5 ∷ 4 ∷ 6 ∷ 7 ∷ 3 ∷ 2 ∷ []
 
+-- the place of each relay
+unfoldable pub spots : List ℕ
+spots = 0 ∷ 1 ∷ 7 ∷ 6 ∷ 3 ∷ 2 ∷ 4 ∷ 5 ∷ []
+
 abbrev pub relay_at : ℕ → ℕ
 relay_at n = number 1 (at n)
 
@@ -31,6 +35,10 @@ holds_at f (x ∷ l) (suc n) h lt = holds_at (λ k. f (suc k)) l n h.1 (omega ar
 pub ring_is : (n : ℕ) → get_or ring (n % 8) 0 ≡ relay_at n
 unfolding ring
 ring_is n = holds_at relay_at ring (n % 8) (refl, (refl, (refl, (refl, (refl, (refl, (refl, (refl, tt)))))))) (omega arith) ∙ ap (number 1) (at-mod n)
+
+pub spots_is : (x : ℕ) → x < 8 → get_or spots x 0 ≡ spot_of x
+unfolding spots
+spots_is x h = holds_at spot_of spots x (refl, (refl, (refl, (refl, (refl, (refl, (refl, (refl, tt)))))))) (omega arith)
 
 -- ---- a way along the ring
 
