@@ -53,6 +53,22 @@ pub record AllInside (s0 p0 k : ℕ) (slots : List ℕ) (c : Choice) (o : Option
   pub blocks : List ℕ
   pub state : State m s0 p0 k blocks slots c o g
 
+-- they are few, and each is one of it
+pub all-few : {s0 p0 k : ℕ} {slots : List ℕ} {c : Choice} {o : Option Taken} {g : List ℕ} → AllInside s0 p0 k slots c o g → k ≤ 6
+all-few a = omega (arith, a.state.planned.asks.ask.few, a.state.planned.asks.high)
+
+pub one_inside : {s0 p0 k : ℕ} {slots : List ℕ} {c : Choice} {o : Option Taken} {g : List ℕ} {j : ℕ} → AllInside s0 p0 k slots c o g → j < k → Inside s0 p0 slots c o g j
+one_inside {s0} {p0} {k} {slots} {c} {o} {g} {j} a h = record { m = a.m; k = k; blocks = a.blocks; lt = h; state = a.state }
+
+-- j is a target from some source
+pub record Somewhere (slots : List ℕ) (c : Choice) (o : Option Taken) (g : List ℕ) (j : ℕ) : Type 0 where
+  pub s0 : ℕ
+  pub p0 : ℕ
+  pub is : Inside s0 p0 slots c o g j
+
+pub inside_small : {s0 p0 : ℕ} {slots : List ℕ} {c : Choice} {o : Option Taken} {g : List ℕ} {j : ℕ} → Inside s0 p0 slots c o g j → j < 6
+inside_small i = omega (arith, i.lt, i.state.planned.asks.ask.few, i.state.planned.asks.high)
+
 -- ---- what the planner of blocks is asked
 
 module _ {m s0 p0 k : ℕ} {blocks slots : List ℕ} {c : Choice} (a : Asks m s0 p0 k blocks slots) (h : Chosen m s0 p0 k blocks slots c) where
@@ -104,6 +120,16 @@ pub record Leaves (s0 p0 : ℕ) (slots : List ℕ) (c : Choice) (o : Option Take
   pub single : j ≢ who_of o → bit j c.inner ≡ 0 → bit j c.straight ≡ 0 → (l : List ℕ) × (hops g j ≡ flip s0 r ∷ l)
 
 module _ {s0 p0 : ℕ} {slots : List ℕ} {c : Choice} {o : Option Taken} {g : List ℕ} {j r : ℕ} where
+  -- whoever takes over, the inner ones, those straight through their gate, and the others
+  pub leaves_taken : j ≡ who_of o → r ≡ p0 → Leaves s0 p0 slots c o g j r
+  leaves_taken e q = record { taken = λ z. q; inner = λ ne. absurd (ne e); straight = λ ne. absurd (ne e); single = λ ne. absurd (ne e) }
+
+  pub leaves_inner : j ≢ who_of o → bit j c.inner ≡ 1 → r ≡ at slots j → Leaves s0 p0 slots c o g j r
+  leaves_inner ne b q = record { taken = λ z. absurd (ne z); inner = λ z w. q; straight = λ z w. absurd (clash w b); single = λ z w. absurd (clash w b) }
+
+  pub leaves_straight : j ≢ who_of o → bit j c.inner ≡ 0 → bit j c.straight ≡ 1 → r ≡ at c.gates.slots j → Leaves s0 p0 slots c o g j r
+  leaves_straight ne b d q = record { taken = λ z. absurd (ne z); inner = λ z w. absurd (clash b w); straight = λ z w v. q; single = λ z w v. absurd (clash v d) }
+
   pub leaves_single : j ≢ who_of o → bit j c.inner ≡ 0 → bit j c.straight ≡ 0 → (l : List ℕ) → hops g j ≡ flip s0 r ∷ l → Leaves s0 p0 slots c o g j r
   leaves_single ne b d l q = record { taken = λ z. absurd (ne z); inner = λ z w. absurd (clash b w); straight = λ z w v. absurd (clash d v); single = λ z w v. (l, q) }
 

@@ -1,6 +1,6 @@
 -- A sound request of order 2 to 5, taken apart and planned (`general_draws`, `general_drawn`). Assumes nothing.
-use Rattle.std.specs.Prelude.{ℕ, ◌+◌, ◌*◌, ◌≤◌, ◌<◌, ◌≡◌, ◌⊎◌, ◌≢◌, List, length}
-use Rattle.std.proofs.Common.{sym, ◌∙◌, subst, inl, inr, ⊎_elim}
+use Rattle.std.specs.Prelude.{ℕ, ◌+◌, ◌*◌, ◌^◌, ◌≤◌, ◌<◌, ◌≡◌, ◌⊎◌, ◌≢◌, List, length}
+use Rattle.std.proofs.Common.{sym, ◌∙◌, subst, inl, inr, ⊎_elim, arith, pow_mono, pow_pos}
 use Rattle.cube_math.specs.Masks.{at}
 use Rattle.two_parts.specs.Two.{two, block_of, slot_of}
 use Rattle.two_math.specs.Assemble.{most}
@@ -19,6 +19,10 @@ pub record General (m s w : ℕ) (targets places counts : List ℕ) : Type 0 whe
   pub some : (length targets ≤ m) ⊎ ((j : ℕ) × (j < length targets) × (block m (at targets j) ≢ block m s))
 
 module _ {m s w : ℕ} {targets places counts : List ℕ} (a : General m s w targets places counts) where
+  -- its numbers are small
+  pub general_small : (2 ^ m ≤ 32) × (0 < 2 ^ m) × (length targets ≤ 6)
+  general_small = let p : 2 ^ m ≤ 32 = pow_mono a.high in (p, pow_pos m, omega (arith, a.ready.sound.few, a.high))
+
   module _ {blocks slots : List ℕ} {s0 p0 : ℕ} (tb : Filled 8 (length targets) (λ j v. v ≡ block_of m (at targets j)) blocks)
       (tp : Filled 8 (length targets) (λ j v. v ≡ slot_of m (at targets j)) slots) (es : s0 ≡ block_of m s) (ep : p0 ≡ slot_of m s) where
     pub general_draws : (k : ℕ) → k ≡ length targets → Draws m s0 p0 k w blocks slots places counts

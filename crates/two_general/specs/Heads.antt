@@ -1,6 +1,6 @@
 -- The heads: each path's leg has relays that cross its blocks, so all parts are drafted, and a cube fan leads to the slots by which the paths leave
 -- (`heads_ask`). Assumes nothing.
-use Rattle.std.specs.Prelude.{ℕ, ◌+◌, ◌-◌, ◌^◌, ◌≤◌, ◌<◌, ◌≡◌, refl, ◌⊎◌, ◌≢◌, List, [], ◌∷◌, Option, Some, None, length, get_or, take}
+use Rattle.std.specs.Prelude.{ℕ, zero, suc, ◌+◌, ◌-◌, ◌^◌, ◌≤◌, ◌<◌, ◌≡◌, refl, ◌⊎◌, ◌≢◌, List, [], ◌∷◌, Option, Some, None, length, get_or, take}
 use Rattle.std.proofs.Common.{sym, ap, subst, inl, inr, arith}
 use Rattle.std.proofs.Math.Decide.{ℕ_discrete}
 use Rattle.std.specs.Int.Count.{ones-ones}
@@ -16,6 +16,7 @@ use Rattle.two_math.specs.Plan.{Role, Draft}
 use Rattle.two_math.specs.Shut.{some-row}
 use Rattle.two_math.proofs.Roles.{drafted, heads_request}
 use Rattle.two_math.specs.Someone.{someone, few-walk}
+use Rattle.two_math.specs.Loops.{last}
 use Rattle.two_choose.specs.declared.Choice.{Choice}
 use Rattle.two_takeover.specs.declared.Taken as taken
 use Rattle.two_write.specs.Row.{hops}
@@ -23,6 +24,13 @@ use Rattle.two_rows.specs.Rows.{Ask}
 use Rattle.two_general.specs.Draft.{State, who_of, Leaves}
 use Rattle.two_general.specs.Legs.{Leg, GateTail, leg_inner, leg_straight, leg_direct, leg_gated}
 use Rattle.two_general.specs.TakenLeg.{leg_taken, taken_row}
+
+-- a walk cut short
+walk-take : (free u t n : ℕ) (l : List ℕ) → Walk free u t l → Walk free u (last u (take n l)) (take n l)
+walk-take free u t zero [] w = refl
+walk-take free u t zero (v ∷ l) w = refl
+walk-take free u t (suc n) [] w = refl
+walk-take free u t (suc n) (v ∷ l) w = (w.0, w.1, w.2, walk-take free v t n l w.3)
 
 -- ---- any leg can be walked
 
@@ -35,11 +43,16 @@ body_of m s0 leave last₁ (x ∷ r) stays goes first a b =
     let t = through m s0 leave w.0 last₁ (x ∷ r) w.1 a b x r refl (first (omega arith)) in
     (w.0, t.0, t.1)
 
+-- so are those of a leg
+some-body : {m s0 p0 k : ℕ} {blocks slots : List ℕ} {c : Choice} {o : Option taken.Taken} {g : List ℕ} {j leave : ℕ} {path : List ℕ} {last₁ len : ℕ} {tail : List ℕ}
+    → Leg m s0 p0 k blocks slots c o g j leave path last₁ len tail → (d : ℕ) × (body : List Relay) × Crosses m s0 leave d last₁ path body
+some-body {m} {s0} {leave = leave} {path = path} {last₁ = last₁} l = body_of m s0 leave last₁ path l.stays l.goes l.first l.leave_in l.last_in
+
 pub some_role : {m s0 p0 k : ℕ} {blocks slots : List ℕ} {c : Choice} {o : Option taken.Taken} {g : List ℕ} {j leave : ℕ} {path : List ℕ} {last₁ len : ℕ} {tail : List ℕ}
     → Leg m s0 p0 k blocks slots c o g j leave path last₁ len tail → (row : ℕ) × (route tail : List ℕ) × (body : List Relay)
     × Role m s0 p0 k (at blocks) (at slots) c.gates.gated c.rows (who_of o) (at c.gates.slots) (at c.ends) (hops g) j leave row route tail body
 some_role {m} {s0} {p0} {k} {blocks} {slots} {c} {o} {g} {j} {leave} {path} {last₁} {len} {tail} l =
-    let b = body_of m s0 leave last₁ path l.stays l.goes l.first l.leave_in l.last_in in
+    let b = some-body l in
     (l.row, path, take len tail, b.1, l.role b.0 b.1 b.2)
 
 -- ---- each target has a leg

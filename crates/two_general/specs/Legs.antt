@@ -1,7 +1,7 @@
 -- The rest of a path after its head: a law for each kind of target (`leg_inner`, `leg_taken`, `leg_direct`, `leg_gated`, `leg_straight`).
 -- Assumes nothing.
 use Rattle.std.specs.Prelude.{ℕ, suc, ◌+◌, ◌-◌, ◌*◌, ◌^◌, ◌≤◌, ◌<◌, ◌≡◌, refl, ◌⊎◌, ◌≢◌, List, [], ◌∷◌, Option, length, get_or, take}
-use Rattle.std.proofs.Common.{sym, ap, ◌∙◌, subst, inl, inr, ⊎_elim, suc-mul, mul-le-mul_right, mul-suc, mul_comm, add-one, arith, length-take, get_or-take, pow_pos}
+use Rattle.std.proofs.Common.{sym, ap, ◌∙◌, subst, inl, inr, ⊎_elim, suc-mul, mul-le-mul_right, mul-suc, mul_comm, add-one, arith, length-take, take_all, get_or-take, pow_pos}
 use Rattle.cube_math.specs.Masks.{at}
 use Rattle.bits.specs.Bit.{bit, flip}
 use Rattle.bits.specs.Laws.{flip-flip, flip-lt}
@@ -17,10 +17,21 @@ use Rattle.two_math.specs.Gates.{Near}
 use Rattle.two_math.specs.Loops.{crosses_last, walk-last}
 use Rattle.two_choose.specs.declared.Choice.{Choice}
 use Rattle.two_takeover.specs.declared.Taken as taken
+use Rattle.two_write.specs.Blocks.{Goes}
 use Rattle.two_write.specs.Slots.{Below}
-use Rattle.two_general.specs.Draft.{State, who_of, way_of, single_on, leave-below}
+use Rattle.two_general.specs.Draft.{State, who_of, way_of, way-short, single_on, leave-below}
 
 -- ---- small facts
+
+-- no slots, where there is no tail
+take_none : (l : List ℕ) → take 0 l ≡ []
+take_none [] = refl
+take_none (x ∷ l) = refl
+
+-- the tail through a gate
+some-steps : (m q p : ℕ) → Near m p q → (tail : List ℕ) × Steps m q p tail
+some-steps m q p (inl e) = (q ∷ [], inl (e, refl))
+some-steps m q p (inr (h, l, e)) = (q ∷ p ∷ [], inr (h, l, sym (ap (λ (y : ℕ). flip y h) e ∙ flip-flip p h), refl))
 
 -- slots of a walk in a block
 walk-slots : (m u t : ℕ) (l : List ℕ) → u < 2 ^ m → Walk (2 ^ m - 1) u t l → (x : ℕ) → In x l → x < 2 ^ m
@@ -151,6 +162,13 @@ module _ {m s0 p0 k : ℕ} {blocks slots : List ℕ} {c : Choice} {o : Option ta
     way : Way (2 ^ m) (2 ^ (2 ^ m) - 1) s0 c.shut (at c.ends j) (hops g j)
     way = way_of s.planned j on
 
+    -- its row is a walk, and can be read
+    goes_on : Goes m s0 g j
+    goes_on = record { end = at c.ends j; walk = way.walk; few = way-short s.planned j on }
+
+    few-j : j < 16
+    few-j = omega (arith, s.planned.asks.ask.few, s.planned.asks.high)
+
     some-hops : length (hops g j) ≢ 0
     some-hops e = let z : length (hops g j) ≡ suc (length rest) = ap length starts in omega arith
 
@@ -212,3 +230,8 @@ module _ {m s0 p0 k : ℕ} {blocks slots : List ℕ} {c : Choice} {o : Option ta
           ));
           room = λ h le z. omega (arith, blocks-room m (length (hops g j)) way.short, gate-few t);
         }
+
+-- so many blocks, by another name
+pub leg_long : {m s0 p0 k : ℕ} {blocks slots : List ℕ} {c : Choice} {o : Option taken.Taken} {g : List ℕ} {j leave last len : ℕ} {tail : List ℕ} (row n : ℕ) → n ≡ length (hops g row)
+    → Leg m s0 p0 k blocks slots c o g j leave (hops g row) last len tail → Leg m s0 p0 k blocks slots c o g j leave (take n (hops g row)) last len tail
+leg_long {g = g} row n e l = rw (take_all n (hops g row) (omega arith)) l

@@ -1,6 +1,6 @@
 -- One path written: its source, its head in the source's block, the blocks of its leg, and its tail (`Wrote`). Assumes nothing.
-use Rattle.std.specs.Prelude.{ℕ, suc, ◌+◌, ◌-◌, ◌*◌, ◌^◌, ◌≤◌, ◌<◌, ◌≡◌, Bool, true, false, List, [], ◌∷◌, ◌++◌, length, get_or, take, set}
-use Rattle.std.proofs.Common.{sym, ap, ◌∙◌, arith, length-take, get_or-take, length-append}
+use Rattle.std.specs.Prelude.{ℕ, suc, ◌+◌, ◌-◌, ◌*◌, ◌^◌, ◌≤◌, ◌<◌, ◌≡◌, refl, Bool, true, false, List, [], ◌∷◌, ◌++◌, length, get_or, take, set}
+use Rattle.std.proofs.Common.{sym, ap, ◌∙◌, subst, arith, length-take, get_or-take, length-append}
 use Rattle.std.proofs.lemmas.List.Edits.{sets}
 use Rattle.bits.specs.Bit.{flip}
 use Rattle.two_math.specs.Relays.{Relay, inside, length-inside}
@@ -8,6 +8,7 @@ use Rattle.two_math.specs.Through.{Crosses, crosses_short}
 use Rattle.two_math.specs.Numbers.{numbers, numbers-append, length-numbers}
 use Rattle.scan.specs.Runs.{sets_append}
 use Rattle.cube_math.specs.Doors.{Walk}
+use Rattle.two_write.specs.Row.{hops}
 use Rattle.two_write.specs.Blocks.{Ways, Crossed}
 use Rattle.two_write.specs.Slots.{Below, Slotted}
 
@@ -15,6 +16,15 @@ use Rattle.two_write.specs.Slots.{Below, Slotted}
 unfoldable pub head_if : Bool → List ℕ → List ℕ
 head_if true l = l
 head_if false l = []
+
+-- what the head may be asked, as a row of a grid
+pub record HeadAsk (m s0 : ℕ) (heads : List ℕ) (j : ℕ) (walks : Bool) : Type 0 where
+  pub order : m ≤ 5
+  pub home : s0 < 2 ^ (2 ^ m)
+  pub row : j < 16
+  pub long : length heads ≡ 560
+  pub few : walks ≡ true → length (hops heads j) < 34
+  pub below : walks ≡ true → Below m (length (hops heads j)) (hops heads j)
 
 -- what may be asked: a head of slots of the source's block, a path of blocks from there, and a tail of slots of block b
 pub record PathAsk (m s0 b : ℕ) (head : List ℕ) (leave : ℕ) (path : List ℕ) (last len : ℕ) (tail : List ℕ) (at size : ℕ) : Type 0 where
@@ -110,3 +120,10 @@ head-on l e = ap (λ (w : Bool). head_if w l) e
 pub head_off : {walks : Bool} (l : List ℕ) → walks ≡ false → head_if walks l ≡ []
 unfolding head_if
 head_off l e = ap (λ (w : Bool). head_if w l) e
+
+-- the head written, if it walks
+pub slotted_on : {m b : ℕ} {l : List ℕ} {at : ℕ} {was now : List ℕ} {r : ℕ} (walks : Bool) → walks ≡ true → Slotted m b l at was now r → Slotted m b (head_if walks l) at was now r
+slotted_on {m} {b} {l} {at} {was} {now} {r} walks e s = subst (λ (y : List ℕ). Slotted m b y at was now r) (sym (head-on l e)) s
+
+pub slotted_off : (m b : ℕ) (l : List ℕ) (at : ℕ) (was : List ℕ) (walks : Bool) → walks ≡ false → Slotted m b (head_if walks l) at was was at
+slotted_off m b l at was walks e = subst (λ (y : List ℕ). Slotted m b y at was was at) (sym (head_off l e)) (record { wrote = refl; next = omega arith })

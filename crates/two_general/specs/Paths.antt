@@ -1,6 +1,6 @@
 -- All paths written: what must be chosen before (`Held`), what each path is (`Pathed`), and one of them in its places (`Put`). Assumes nothing.
 use Rattle.std.specs.Prelude.{ℕ, suc, ◌+◌, ◌-◌, ◌*◌, ◌^◌, ◌≤◌, ◌<◌, ◌≡◌, refl, ◌≢◌, Bool, true, false, not, List, ◌∷◌, ◌++◌, Option, length, get_or, set, take, eqb}
-use Rattle.std.proofs.Common.{sym, ap, ◌∙◌, inr, ⊎_elim, arith, length-take, length-append, pow_mono, eq-eqb}
+use Rattle.std.proofs.Common.{sym, ap, ◌∙◌, subst, inr, ⊎_elim, arith, length-take, length-append, pow_mono, eq-eqb}
 use Rattle.std.proofs.lemmas.List.Edits.{sets}
 use Rattle.std.specs.Int.Count.{ones, ones-ones}
 use Rattle.cube_math.specs.Masks.{at}
@@ -20,11 +20,11 @@ use Rattle.two_choose.specs.declared.Choice.{Choice}
 use Rattle.two_takeover.specs.declared.Taken as taken
 use Rattle.two_write.specs.Row.{hops}
 use Rattle.two_write.specs.Slots.{Below}
-use Rattle.two_write.specs.Rows.{Drawing, drawing_more}
+use Rattle.two_write.specs.Rows.{Drawing, drawing_none, drawing_more, row_room}
 use Rattle.two_rows.specs.Rows.{Gives}
-use Rattle.two_general.specs.Draft.{State, who_of, Leaves}
+use Rattle.two_general.specs.Draft.{State, who_of, Leaves, Somewhere}
 use Rattle.two_general.specs.Legs.{Leg, slots-below}
-use Rattle.two_general.specs.Path.{head_if, head-on, head_off, PathAsk, Wrote}
+use Rattle.two_general.specs.Path.{head_if, head-on, head_off, HeadAsk, PathAsk, Wrote}
 
 -- a path walks in the source's block unless it leaves by the source's slot
 abbrev pub walks : ℕ → List ℕ → ℕ → Bool
@@ -74,6 +74,10 @@ module _ {m s0 p0 k : ℕ} {blocks slots : List ℕ} {c : Choice} {o : Option ta
       let p : 2 ^ m ≤ 32 = pow_mono a.high in
       (omega (arith, a.ask.few, a.high), a.high, p)
 
+  -- it is a target from here
+  pub held_somewhere : Somewhere slots c o g j
+  held_somewhere = record { s0 = s0; p0 = p0; is = record { m = m; k = k; blocks = blocks; lt = lt; state = h.state } }
+
   walks-way : walks p0 leaves j ≡ true → Way (ones (2 ^ m - 1)) (2 ^ m - 1) p0 0 (at leaves j) (hops heads j)
   walks-way e = h.fan.fan.each j (⊎_elim (λ z. absurd (true-false e (ap not (eq-eqb (at leaves j) p0 (h.walk.fails j (bit-full k j lt) z))))) (λ z. z) (bit-cases j h.walkers))
 
@@ -91,11 +95,22 @@ module _ {m s0 p0 k : ℕ} {blocks slots : List ℕ} {c : Choice} {o : Option ta
   pub head_row : (j < 16) × (walks p0 leaves j ≡ true → length (hops heads j) < 34)
   head_row = (omega (arith, held_small.0), λ e. omega (arith, (walks-way e).short, ones-ones m, held_small.1))
 
+  -- and all that the head may be asked
+  head_ask : HeadAsk m s0 heads j (walks p0 leaves j)
+  head_ask = record {
+    order = held_small.1;
+    home = h.state.planned.asks.ask.home-block;
+    row = head_row.0;
+    long = h.fan.long;
+    few = head_row.1;
+    below = λ e i l. slots-below m p0 (at leaves j) (hops heads j) h.state.planned.asks.ask.home-slot (walks-way e).walk (get_or (hops heads j) i 0) (inr (in_at (hops heads j) 0 i l));
+  }
+
   head_below : Below m (length (head_of p0 leaves heads j)) (head_of p0 leaves heads j)
   head_below = by (walks p0 leaves j) refl
     where
       by : (b : Bool) → walks p0 leaves j ≡ b → Below m (length (head_of p0 leaves heads j)) (head_of p0 leaves heads j)
-      by true e = rw (head-on (hops heads j) e) (λ i l. slots-below m p0 (at leaves j) (hops heads j) h.state.planned.asks.ask.home-slot (walks-way e).walk (get_or (hops heads j) i 0) (inr (in_at (hops heads j) 0 i l)))
+      by true e = rw (head-on (hops heads j) e) (head_ask.below e)
       by false e = rw (head_off (hops heads j) e) (λ i l. absurd (omega arith))
 
   module _ {path : List ℕ} {last len : ℕ} {tail : List ℕ} (l : Leg m s0 p0 k blocks slots c o g j (at leaves j) path last len tail) where
@@ -149,7 +164,20 @@ module _ {m s0 p0 k w : ℕ} {blocks slots : List ℕ} {c : Choice} {o : Option 
   abbrev Drawn₁ : (source : ℕ) (places counts : List ℕ) (j : ℕ) → Type 0
   Drawn₁ source places counts j = Drawing w source k (Pathed m s0 p0 k blocks slots c o g leaves heads) places₀ counts₀ places counts j
 
+  -- none; what the next is asked; one more; all
+  pub writes_none : (source : ℕ) → Drawn₁ source places₀ counts₀ 0
+  writes_none source = drawing_none w source k (Pathed m s0 p0 k blocks slots c o g leaves heads) places₀ counts₀ a.room a.room-counts a.filled
+
   module _ {source j : ℕ} {places counts : List ℕ} (d : Drawn₁ source places counts j) (lt : j < k) where
+    pub writes_room : (j * w + (most m + 1) ≤ length places) × (j < length counts)
+    writes_room = (omega (arith, row_room j k w lt, d.room, a.wide), omega (arith, d.room-counts))
+
+    pub writes_inner : Inner m s0 p0 blocks slots c o g leaves heads j
+    writes_inner = record { k = k; lt = lt; held = a.held }
+
     pub writes_more : {places₁ : List ℕ} {r : ℕ} → ((k : ℕ) → j < k → Held m s0 p0 k blocks slots c o g leaves heads → Put m s0 p0 k blocks slots c o g leaves heads source j (j * w) places places₁ r)
         → Drawn₁ source places₁ (set counts j r) (j + 1)
     writes_more {places₁} {r} f = let p = f k lt a.held in drawing_more d lt p.path r places₁ p.pathed (omega (arith, p.short, a.wide)) p.wrote p.count
+
+  pub writes_all : {source j : ℕ} {places counts : List ℕ} → j ≡ k → Drawn₁ source places counts j → Drawn₁ source places counts k
+  writes_all {source} {j} {places} {counts} e d = subst (Drawn₁ source places counts) e d

@@ -1,5 +1,5 @@
 -- The leg of the target that takes over the block path of its crowd (`leg_taken`). Assumes nothing.
-use Rattle.std.specs.Prelude.{ℕ, suc, ◌+◌, ◌-◌, ◌*◌, ◌^◌, ◌≤◌, ◌<◌, ◌≡◌, refl, ◌⊎◌, ◌≢◌, List, [], ◌∷◌, ◌++◌, Option, Some, length, get_or, take}
+use Rattle.std.specs.Prelude.{ℕ, suc, ◌+◌, ◌-◌, ◌*◌, ◌^◌, ◌≤◌, ◌<◌, ◌≡◌, refl, ◌⊎◌, ◌≢◌, List, [], ◌∷◌, ◌++◌, Option, Some, None, length, get_or, take}
 use Rattle.std.proofs.Common.{sym, ap, ◌∙◌, subst, inl, inr, ⊎_elim, mul-le-mul_right, mul-suc, mul_comm, arith, length-take, length-append, get_or-take, take_at}
 use Rattle.cube_math.specs.Masks.{at}
 use Rattle.bits.specs.Bit.{bit, flip}
@@ -17,7 +17,7 @@ use Rattle.two_takeover.specs.declared.Taken as taken
 use Rattle.two_takeover.specs.TakeOver.{Takes}
 use Rattle.two_write.specs.Blocks.{walk-take}
 use Rattle.two_write.specs.Slots.{Below}
-use Rattle.two_general.specs.Draft.{State, way_of, way-short}
+use Rattle.two_general.specs.Draft.{State, who_of, way_of, way-short}
 use Rattle.two_general.specs.Legs.{Leg, slots-below, below_list}
 
 few-room : (m n : ℕ) → n ≤ 2 ^ m → n * suc m ≤ m * 2 ^ m + 2 ^ m
@@ -158,3 +158,9 @@ module _ {m s0 p0 k : ℕ} {blocks slots : List ℕ} {c : Choice} {o : Option ta
   pub over_leg : (j leave n : ℕ) → j ≡ y.who → leave ≡ p0 → n + 1 ≡ length (hops g y.row) → Leg m s0 p0 k blocks slots c o g j leave (take n (hops g y.row)) y.enter y.tail.len y.tail.slots
   over_leg j leave n e l q =
       subst (λ (x : Option taken.Taken). Leg m s0 p0 k blocks slots c x g j leave (take n (hops g y.row)) y.enter y.tail.len y.tail.slots) (sym is) (leg_taken some_state takes j leave y.row n e l refl q)
+
+-- a target that is who takes over does
+pub takes_over : {m s0 p0 k : ℕ} {blocks slots : List ℕ} {c : Choice} {o : Option taken.Taken} {g : List ℕ} {j : ℕ} → State m s0 p0 k blocks slots c o g → j < k → j ≡ who_of o
+    → (y : taken.Taken) × (o ≡ Some y) × Takes m s0 p0 k blocks slots c.gates.slots c.gates.gated c.reps g y.who y.row y.enter y.tail.len y.tail.slots
+takes_over {o = None} s lt e = absurd (omega (arith, s.planned.asks.ask.few, s.planned.asks.high))
+takes_over {o = Some y} s lt e = (y, refl, s.over.someone y refl)
