@@ -126,6 +126,13 @@ module _ (text : List ℕ) (at value : ℕ) where
     within = omega arith;
   }
 
+  -- the same, by the number with one digit more
+  pub reading_fits : {i v n : ℕ} → Reading text at value i v → i < length text → is_digit (get_or text i 0) ≡ true → some n ≡ longer_fits v (get_or text i 0) → Reading text at value (i + 1) n
+  reading_fits {i} {v} r h d e = let f = fits_more v (get_or text i 0) e in reading-on r h d f.1 f.0
+
+  pub reading_past : {i v : ℕ} → Reading text at value i v → i < length text → is_digit (get_or text i 0) ≡ true → none ≡ longer_fits v (get_or text i 0) → Read text at None (more value (drop at text))
+  reading_past {i} {v} r h d e = reading-over r h d (fits_over v (get_or text i 0) e)
+
   pub reading-end : {i v : ℕ} → Reading text at value i v → on_digit (drop i text) ≡ false → Read text at (Some (v, i)) (more value (drop at text))
   reading-end {i} {v} r e = record { same = sym (r.same ∙ more-end v (drop i text) e); within = (r.from, r.within) }
 

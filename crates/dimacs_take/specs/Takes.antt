@@ -153,11 +153,6 @@ module _ (text : List ℕ) (at : ℕ) {r : rust.Option (ℕ × ℕ × ℕ)} (f :
   pub pair_lost : (g : ℕ → ℕ → Line) → r ≡ None → Taken text at None (piece_of g (two (drop at text)))
   pair_lost g z = record { same = ap (piece_of g) (sym (ap (pair_told text) z) ∙ f.same); within = omega arith }
 
--- a line that is taken later in the text
-later : (text : List ℕ) {at to : ℕ} (r : rust.Option (code.Line × ℕ)) → at ≤ to → TakenWithin text to r → TakenWithin text at r
-later text (Some (x, e)) h w = (omega (arith, w.0), w.1)
-later text None h w = omega arith
-
 -- ---- as code reads two numbers
 
 -- a newline stands in the text
@@ -241,6 +236,11 @@ as_two text v = v
 
 -- ---- a line, by its first bytes
 
+-- a line that is taken later in the text
+later : (text : List ℕ) {at to : ℕ} (r : rust.Option (code.Line × ℕ)) → at ≤ to → TakenWithin text to r → TakenWithin text at r
+later text (Some (x, e)) h w = (omega (arith, w.0), w.1)
+later text None h w = omega arith
+
 module _ (text : List ℕ) (at : ℕ) (h : at < length text) where
   abbrev b : ℕ
   b = get_or text at 0
@@ -273,6 +273,22 @@ module _ (text : List ℕ) (at : ℕ) (h : at < length text) where
   pub on_other : b ≢ 99 → b ≢ 101 → begins counts_word (drop at text) ≡ false → broken ≡ line_at (drop at text)
   on_other n m e = sym (by_byte false false false (ne_eqb b 99 n) (ne_eqb b 101 m) e)
 
+  -- the same of a line that is taken
+  pub comment_line : {r : rust.Option (code.Line × ℕ)} → b ≡ 99 → Taken text (at + 1) r (comment_of (skip l)) → Taken text at r (line_at (drop at text))
+  comment_line {r} e t = record { same = t.same ∙ sym (by_byte true (eqb b 101) (begins counts_word (drop at text)) (eq-eqb b 99 e) refl refl); within = later text r (omega arith) t.within }
+
+  pub link_line : {r : rust.Option (code.Line × ℕ)} → b ≢ 99 → b ≡ 101 → Taken text (at + 1) r (piece_of edge_line (two l)) → Taken text at r (line_at (drop at text))
+  link_line {r} n e t = record { same = t.same ∙ sym (by_byte false true (begins counts_word (drop at text)) (ne_eqb b 99 n) (eq-eqb b 101 e) refl); within = later text r (omega arith) t.within }
+
+  pub counts_line : {r : rust.Option (code.Line × ℕ)} → b ≢ 99 → b ≢ 101 → begins counts_word (drop at text) ≡ true → Taken text (at + 6) r (piece_of counts (two (drop (at + 6) text))) → Taken text at r (line_at (drop at text))
+  counts_line {r} n m e t = record {
+    same = t.same ∙ ap (λ (x : List ℕ). piece_of counts (two x)) (sym (drop-drop 6 at text)) ∙ sym (by_byte false false true (ne_eqb b 99 n) (ne_eqb b 101 m) e);
+    within = later text r (omega arith) t.within;
+  }
+
+  pub other_line : b ≢ 99 → b ≢ 101 → begins counts_word (drop at text) ≡ false → Taken text at None (line_at (drop at text))
+  other_line n m e = record { same = on_other n m e; within = omega arith }
+
   -- the words lie in the text
   pub words_within : begins counts_word (drop at text) ≡ true → at + 6 ≤ length text
   words_within e = omega (arith, ap length (begins_sound counts_word (drop at text) e), length-drop at text)
@@ -280,6 +296,9 @@ module _ (text : List ℕ) (at : ℕ) (h : at < length text) where
   -- the rest of the text, cut out of it
   pub begun : {r x : Bool} → r ≡ starts_with eqb (take (length text - at) (drop at text)) counts_word → r ≡ x → begins counts_word (drop at text) ≡ x
   begun e f = begins_is counts_word (drop at text) (e ∙ ap (λ (m : List ℕ). starts_with eqb m counts_word) (take_all (length text - at) (drop at text) (omega (arith, length-drop at text)))) f
+
+  pub begun_in : {r : Bool} → r ≡ begins counts_word (take (length text - at) (drop at text)) → r ≡ begins counts_word (drop at text)
+  begun_in e = e ∙ ap (begins counts_word) (take_all (length text - at) (drop at text) (omega (arith, length-drop at text)))
 
 -- the place after a newline lies in the text
 pub skipped_in : (text : List ℕ) (from : ℕ) {r : rust.Option ℕ} {e : ℕ} → r ≡ Some e → Skipped text from r → e ≤ length text
