@@ -95,6 +95,10 @@ find_is b bytes index kind size source {r} {q} e h = go r h ∙ ap find_by e
     go (Some x) h = h
     go None h = h
 
+pub found_is : (b : Book) (bytes index : List ℕ) (kind size source : ℕ) {r v : MaybeSought} → r ≡ seeks b bytes index kind size source → r ≡ v → find_by v ≡ find_says b bytes index kind size source
+unfolding find_says
+found_is b bytes index kind size source e f = ap find_by (sym f ∙ e)
+
 -- ---- what is told and left
 
 module _ (b : Book) (bytes index sheet : List ℕ) where

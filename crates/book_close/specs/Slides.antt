@@ -280,6 +280,12 @@ module _ {f : ℕ → ℕ} {was : List ℕ} {n : ℕ} {is : List ℕ} {i : ℕ} 
       q.wrote ∙ ap (λ (k : ℕ). map f (take k was) ++ drop k was) all ∙ ap (λ (k : ℕ). map f (take n was) ++ drop k was) end
       ∙ sym (sets-eq (map f (take n was)) was 0 (omega (arith, q.room)))
 
+-- a number of a list of values
+pub get_d_map : (f : ℕ → ℕ) (l : List ℕ) (i : ℕ) → i < length l → get_or (map f l) i 0 ≡ f (get_or l i 0)
+get_d_map f [] i h = absurd (omega arith)
+get_d_map f (x ∷ l) zero h = refl
+get_d_map f (x ∷ l) (suc i) h = get_d_map f l i (omega arith)
+
 -- ---- what stands from a place on
 
 pub live_at : (l : List ℕ) (at : ℕ) → not (eqb (get_or l (at + 4) 0) 0) ≡ live (drop at l)

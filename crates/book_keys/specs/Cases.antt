@@ -97,3 +97,21 @@ module _ (b : Book) (bytes index : List ℕ) (kind size source : ℕ) {f t : Boo
 
   pub code_held : t ≡ true → {r : MaybeSought} → r ≡ held_at bytes i (start_of (get_or index i 0)) → r ≡ seeks b bytes index kind size source
   code_held e g = g ∙ seeks-held b bytes index kind size source (sym ef ∙ tf) (sym code_there ∙ e) (spot_is b index k en ei ∙ ap (spot b index) ek)
+
+-- a sheet that the index has at place i, by the lengths of what is lent and of the sheet
+module _ (bytes : List ℕ) (i start : ℕ) where
+  pub held-short : length bytes < start + HEAD → None ≡ held_at bytes i start
+  held-short h =
+      sym (ap (λ (a : Bool). pick a None (pick (ltb (length bytes) (start + (4 + number bytes start 4))) None (sought_at i start (4 + number bytes start 4)))) (lt-ltb _ _ h))
+
+  module _ {n : ℕ} (h : start + HEAD ≤ length bytes) (e : n ≡ number bytes start 4) where
+    held_by : pick (ltb (length bytes) (start + (4 + n))) None (sought_at i start (4 + n)) ≡ held_at bytes i start
+    held_by =
+        ap (λ (m : ℕ). pick (ltb (length bytes) (start + (4 + m))) None (sought_at i start (4 + m))) e
+        ∙ sym (ap (λ (a : Bool). pick a None (pick (ltb (length bytes) (start + (4 + number bytes start 4))) None (sought_at i start (4 + number bytes start 4)))) (le-ltb _ _ h))
+
+    pub held_cut : length bytes < start + (4 + n) → None ≡ held_at bytes i start
+    held_cut g = sym (ap (λ (a : Bool). pick a None (sought_at i start (4 + n))) (lt-ltb _ _ g)) ∙ held_by
+
+    pub held_whole : start + (4 + n) ≤ length bytes → sought_at i start (4 + n) ≡ held_at bytes i start
+    held_whole g = sym (ap (λ (a : Bool). pick a None (sought_at i start (4 + n))) (le-ltb _ _ g)) ∙ held_by

@@ -109,3 +109,7 @@ module _ (l : List ℕ) {kind size s : ℕ} (ek : kind ≡ get_or l 5 0) (ez : s
 
   pub keyed_here : Keyed (get_or l 5 0) (get_or l 6 0) (number l 8 8) → Keyed kind size s
   keyed_here k = record { some-kind = omega (arith, k.some-kind); few_kinds = omega (arith, k.few_kinds); small = omega (arith, k.small); near = omega (arith, k.near) }
+
+-- the same key, its source as it is told
+pub keyed_same : {kind size source s : ℕ} → Keyed kind size source → s ≡ source → Keyed kind size s
+keyed_same {kind} {size} k e = subst (Keyed kind size) (sym e) k

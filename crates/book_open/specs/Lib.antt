@@ -3,4 +3,5 @@ pub mod Needs
 pub mod Pieces
 pub mod Enters
 pub mod Opens
+pub mod Keeps
 pub mod Restart

@@ -181,6 +181,16 @@ module _ (bytes index room : List ℕ) {places : ℕ} {r : Opened} (ep : places 
       go ((Err (opened.Bad s))) t k = refused (open_from (length bytes) places 0 bytes []) (λ l f. no_book t (ap (opened_by (length bytes)) f))
       go (Err opened.Full) t k = refused (open_from (length bytes) places 0 bytes []) (λ l f. no_book_full t (ap (opened_by (length bytes)) f))
 
+  -- so many places are kept
+  module _ {b₀ : Book} (eb : b₀ ≡ opened_book r (book_of 0 0)) where
+    pub open_few : (b₀.entries ≤ 256) × (b₀.entries ≤ length index)
+    open_few = go r (λ b e. (g.kept b e).1) (ap (λ (b : Book). b.entries) eb)
+      where
+        go : (q : Opened) → ((b : Book) → q ≡ Ok b → b.entries ≤ places) → b₀.entries ≡ (opened_book q (book_of 0 0)).entries → (b₀.entries ≤ 256) × (b₀.entries ≤ length index)
+        go (Ok b) k e = let w = k b refl in (omega arith, omega arith)
+        go (Err (opened.Bad s)) k e = (omega arith, omega arith)
+        go (Err opened.Full) k e = (omega arith, omega arith)
+
 -- ---- a part of a slice, from a place on
 
 part_is : (l : List ℕ) (at : ℕ) → take (length l - at) (drop at l) ≡ drop at l

@@ -21,3 +21,12 @@ opened_in o was = booked (opened_number o) 0 (opened_place o) (opened_book o was
 
 abbrev pub found_in : MaybeFound → GustFound
 found_in f = record { number = found_number f; start = found_start f; length = found_length f }
+
+-- equal fields
+pub booked-same : {n n₁ i i₁ p p₁ : ℕ} {b b₁ : Book} → n ≡ n₁ → i ≡ i₁ → p ≡ p₁ → b ≡ b₁ → booked n i p b ≡ booked n₁ i₁ p₁ b₁
+booked-same {n₁ = n₁} {i} {i₁} {p} {p₁} {b} e f g h = ap₂ (λ (x y : ℕ). booked x y p b) e f ∙ ap₂ (booked n₁ i₁) g h
+
+pub found-same : {n n₁ s s₁ l l₁ : ℕ} → n ≡ n₁ → s ≡ s₁ → l ≡ l₁
+    → ◌≡◌ {A = GustFound} (record { number = n; start = s; length = l }) (record { number = n₁; start = s₁; length = l₁ })
+found-same {n₁ = n₁} {s} {s₁} {l} {l₁} e f g =
+    ap₂ (λ (x y : ℕ). record { number = x; start = y; length = l }) e f ∙ ap (λ (z : ℕ). record { number = n₁; start = s₁; length = z }) g

@@ -1,10 +1,13 @@
 -- What the code reads, as the definitions have it (`number_of`), and what its loop and its cases owe. Assumes nothing.
-use Rattle.std.specs.Prelude.{ℕ, ◌+◌, ◌-◌, ◌≤◌, ◌<◌, ◌≡◌, refl, Bool, true, false, ◌≢◌, List, ◌∷◌, leb, length, get_or, drop, Option, Some, None}
+use Rattle.std.specs.Prelude.{ℕ, ◌+◌, ◌-◌, ◌*◌, ◌/◌, ◌≤◌, ◌<◌, ◌≡◌, refl, Bool, true, false, ◌≢◌, List, ◌∷◌, leb, length, get_or, drop, Option, Some, None}
 use Rattle.std.specs.Char.{is_ascii_digit}
-use Rattle.std.proofs.Common.{sym, ap, ◌∙◌, subst, arith, add-one, drop_of_length-le, drop-cons, ◌&&◌}
+use Rattle.std.proofs.Common.{sym, ap, ◌∙◌, subst, ⊎_elim, arith, add-one, div-lt_iff_lt-mul, le-div_iff_mul-le, drop_of_length-le, drop-cons, ◌&&◌, le-leb, leb-true, leb-false}
+use Rattle.std.proofs.Math.Option as maths
+use Rattle.std.proofs.Math.Option.{none, some}
 use Rattle.std.proofs.Math.Decide.{dec_lt}
+use Rattle.std.proofs.lemmas.Bool.{lt-leb}
 use Rattle.scan.specs.Scan.{pick}
-use Rattle.scan.specs.Laws.{true-false}
+use Rattle.scan.specs.Laws.{true-or, true-false}
 use Rattle.decimal.specs.Number.{Number, bad, got, is_digit, on_digit, limit, longer, more, number, digit_within, more-on, more-over, more-end, number-none, number-first, number_led, number-zero}
 
 -- the code's answer: the text after the number is what stands from its end on
@@ -28,6 +31,56 @@ tested b {r} {x} e f = sym (go (leb 48 b) (leb b 57)) ∙ sym e ∙ f
     go : (x y : Bool) → (x && y) ≡ pick x y false
     go true y = refl
     go false y = refl
+
+-- the number with one digit more, where it is below the limit
+abbrev pub longer_fits : ℕ → ℕ → maths.Option ℕ
+longer_fits v b = pick (leb limit (longer v b)) none (some (longer v b))
+
+-- ---- a digit more
+
+-- a number is too large with one digit more exactly where it is above a tenth of the rest of the limit
+over : (v d : ℕ) → d < 10 → (18446744073709551615 - d) / 10 < v → limit ≤ v * 10 + d
+over v d g h = let less = (div-lt_iff_lt-mul {k = 10} {x = 18446744073709551615 - d} (omega arith)).0 h in omega arith
+
+under : (v d : ℕ) → d < 10 → v ≤ (18446744073709551615 - d) / 10 → v * 10 + d < limit
+under v d g h = let less = (le-div_iff_mul-le {k = 10} {y = 18446744073709551615 - d} (omega arith)).0 h in omega arith
+
+module _ (v b wide : ℕ) (w : wide ≡ b) (digit : is_digit b ≡ true) where
+  pub digit_fits : v ≤ (18446744073709551615 - (wide - 48)) / 10 → v * 10 + (wide - 48) < limit
+  digit_fits h = let g = digit_within b digit in under v (wide - 48) (omega arith) h
+
+  pub digit_over : (18446744073709551615 - (wide - 48)) / 10 < v → none ≡ longer_fits v b
+  digit_over h =
+      let g = digit_within b digit in
+      let far = over v (wide - 48) (omega arith) h in
+      ap (λ (x : Bool). pick x none (some (longer v b))) (sym (le-leb limit (longer v b) (omega arith)))
+
+  pub digit_more : v ≤ (18446744073709551615 - (wide - 48)) / 10 → some (v * 10 + (wide - 48)) ≡ longer_fits v b
+  digit_more h =
+      let near = digit_fits h in
+      ap some (ap (λ (x : ℕ). v * 10 + (x - 48)) w)
+      ∙ ap (λ (x : Bool). pick x none (some (longer v b))) (sym (lt-leb limit (longer v b) (omega arith)))
+
+fits_more : (v b : ℕ) {n : ℕ} → some n ≡ longer_fits v b → (n ≡ longer v b) × (longer v b < limit)
+fits_more v b {n} e = ⊎_elim
+    (λ (t : leb limit (longer v b) ≡ true). refuted (e ∙ ap (λ (x : Bool). pick x none (some (longer v b))) t))
+    (λ (f : leb limit (longer v b) ≡ false). (is (e ∙ ap (λ (x : Bool). pick x none (some (longer v b))) f), leb-false limit (longer v b) f))
+    (true-or (leb limit (longer v b)))
+  where
+    refuted : {A : Type 0} → some n ≡ none → A
+    refuted p = let z : ◌≡◌ {A = ℕ} 0 1 = cc in absurd (omega arith)
+
+    is : some n ≡ some (longer v b) → n ≡ longer v b
+    is p = cc
+
+fits_over : (v b : ℕ) → none ≡ longer_fits v b → limit ≤ longer v b
+fits_over v b e = ⊎_elim
+    (λ (t : leb limit (longer v b) ≡ true). leb-true limit (longer v b) t)
+    (λ (f : leb limit (longer v b) ≡ false). refuted (e ∙ ap (λ (x : Bool). pick x none (some (longer v b))) f))
+    (true-or (leb limit (longer v b)))
+  where
+    refuted : {A : Type 0} → none ≡ some (longer v b) → A
+    refuted p = let z : ◌≡◌ {A = ℕ} 0 1 = cc in absurd (omega arith)
 
 -- ---- where a text goes on
 
@@ -72,6 +125,13 @@ module _ (text : List ℕ) (at value : ℕ) where
     same = sym (r.same ∙ ap (more v) (next_byte text i h) ∙ more-over v (get_or text i 0) (drop (i + 1) text) d e);
     within = omega arith;
   }
+
+  -- the same, by the number with one digit more
+  pub reading_fits : {i v n : ℕ} → Reading text at value i v → i < length text → is_digit (get_or text i 0) ≡ true → some n ≡ longer_fits v (get_or text i 0) → Reading text at value (i + 1) n
+  reading_fits {i} {v} r h d e = let f = fits_more v (get_or text i 0) e in reading-on r h d f.1 f.0
+
+  pub reading_past : {i v : ℕ} → Reading text at value i v → i < length text → is_digit (get_or text i 0) ≡ true → none ≡ longer_fits v (get_or text i 0) → Read text at None (more value (drop at text))
+  reading_past {i} {v} r h d e = reading-over r h d (fits_over v (get_or text i 0) e)
 
   pub reading-end : {i v : ℕ} → Reading text at value i v → on_digit (drop i text) ≡ false → Read text at (Some (v, i)) (more value (drop at text))
   reading-end {i} {v} r e = record { same = sym (r.same ∙ more-end v (drop i text) e); within = (r.from, r.within) }

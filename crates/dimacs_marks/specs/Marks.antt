@@ -23,6 +23,29 @@ abbrev pub Leads : (k n links u v : ℕ) → Option ℕ → Type 0
 Leads k n links u v (Some i) = (i < links) × ((kind_of k).near n u i ≡ v)
 Leads k n links u v None = (i : ℕ) → i < links → (kind_of k).near n u i ≢ v
 
+-- a loop over the links has come to i
+pub record Looking (k n links u v i : ℕ) : Type 0 where
+  pub within : i ≤ links
+  pub past : (j : ℕ) → j < i → (kind_of k).near n u j ≢ v
+
+module _ (k n links u v : ℕ) where
+  pub look-start : Looking k n links u v 0
+  look-start = record { within = omega arith; past = λ j h. absurd (omega arith) }
+
+  module _ {i : ℕ} (l : Looking k n links u v i) where
+    pub look-more : {w : ℕ} → i < links → w ≡ (kind_of k).near n u i → w ≢ v → Looking k n links u v (i + 1)
+    look-more {w} h e ne = record { within = omega arith; past = λ j g. go j g (ℕ_discrete j i) }
+      where
+        go : (j : ℕ) → j < i + 1 → Dec (j ≡ i) → (kind_of k).near n u j ≢ v
+        go j g (yes z) q = ne (e ∙ ap ((kind_of k).near n u) (sym z) ∙ q)
+        go j g (no z) q = l.past j (omega arith) q
+
+    pub look-found : {w : ℕ} → i < links → w ≡ (kind_of k).near n u i → w ≡ v → Leads k n links u v (Some i)
+    look-found h e z = (h, sym e ∙ z)
+
+    pub look_lost : links ≤ i → Leads k n links u v None
+    look_lost h j q = l.past j (omega arith)
+
 -- ---- a mark put
 
 -- whether bit i is set

@@ -74,6 +74,13 @@ Stepped text from c (Some (after, next)) = Onward text from c next after
 Stepped text from c None = Stops text from c
 
 -- which it was
+module _ (text : List ℕ) (from : ℕ) (c : Option (ℕ × ℕ)) {r : Option (Option (ℕ × ℕ) × ℕ)} where
+  pub as_onward : {after : Option (ℕ × ℕ)} {next : ℕ} → r ≡ Some (after, next) → Stepped text from c r → Onward text from c next after
+  as_onward e s = subst (Stepped text from c) e s
+
+  pub as_stops : r ≡ None → Stepped text from c r → Stops text from c
+  as_stops e s = subst (Stepped text from c) e s
+
 pub as_taken : {text : List ℕ} {from : ℕ} {x y : code.Line} {next : ℕ} {p : Piece} → x ≡ y → Taken text from (Some (x, next)) p → Taken text from (Some (y, next)) p
 as_taken {text} {from} {x} {y} {next} {p} e t = subst (λ (z : code.Line). Taken text from (Some (z, next)) p) e t
 
@@ -169,9 +176,20 @@ module _ {text : List ℕ} {from k : ℕ} {c : Option (ℕ × ℕ)} (f : Forming
   pub form_stops : from < length text → Stops text from c → Formed (lines_of text) (Err (k + 1))
   form_stops h s = f.bad ∙ ap (malformed_at (headed c) k) (as_most h) ∙ s.bad (f.most - 1) k
 
+  module _ (h : length text ≤ from) where
+    none-bad : malformed_at false 0 (lines_of text) ≡ nowhere
+    none-bad = f.bad ∙ ap (malformed_at (headed c) k) (lines_end text from f.most h) ∙ bad-none (headed c) k []
+
+    told-all : (relays links : ℕ) → counted relays links (lines_of text) ≡ tells c relays links []
+    told-all relays links = f.told relays links ∙ ap (tells c relays links) (lines_end text from f.most h)
+
 pub form_done : {text : List ℕ} {from k : ℕ} (c : Option (ℕ × ℕ)) → Forming text from k c → length text ≤ from → Formed (lines_of text) (Ok c)
-form_done {text} {from} {k} None f h = (
-  f.bad ∙ ap (malformed_at false k) (lines_end text from f.most h) ∙ bad-none false k [],
-  λ relays links. f.told relays links ∙ ap (counted relays links) (lines_end text from f.most h) ∙ told_none relays links [],
-)
-form_done {text} {from} {k} (Some (n, m)) f h = (f.bad ∙ ap (malformed_at true k) (lines_end text from f.most h) ∙ bad-none true k [], f.told)
+form_done None f h = (none-bad f h, λ relays links. told-all f h relays links ∙ told_none relays links [])
+form_done (Some (n, m)) f h = (none-bad f h, told-all f h)
+
+-- with a `p` line, and with none
+pub form_counted : {text : List ℕ} {from k : ℕ} {n m : ℕ} → Forming text from k (Some (n, m)) → length text ≤ from → Formed (lines_of text) (Ok (Some (n, m)))
+form_counted {n = n} {m} f h = form_done (Some (n, m)) f h
+
+pub form_headless : {text : List ℕ} {from k : ℕ} → Forming text from k None → length text ≤ from → Formed (lines_of text) (Ok None)
+form_headless f h = form_done None f h

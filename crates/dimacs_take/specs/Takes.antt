@@ -9,9 +9,9 @@ use mathlib.Core.List.{List, [], ◌∷◌}
 use Rattle.std.proofs.Math.Decide.{dec_lt}
 use Rattle.scan.specs.Scan.{pick}
 use Rattle.decimal.specs.Read.{next_byte}
-use Rattle.line.specs.Parse.{Field, end, field, on_field, begins}
+use Rattle.line.specs.Parse.{Field, end, field, on_field, begins, begins_sound}
 use Rattle.line.specs.Lines.{end_sound}
-use Rattle.line_take.specs.Reads.{ReadField, field_told, begins_is}
+use Rattle.line_take.specs.Reads.{ReadField, field_told, FieldWithin, begins_is}
 use Rattle.line_take.specs.declared.Field as code-field
 use Rattle.line_take.specs.declared.Field.TheVariants as fld
 use Rattle.std.specs.List.{starts_with}
@@ -80,6 +80,28 @@ module _ (text : List ℕ) (at : ℕ) where
         within = (omega arith, omega (arith, f.0, ap length e, length-drop at text));
       }
 
+-- a loop over the bytes has come to i
+pub record Skipping (text : List ℕ) (at i : ℕ) : Type 0 where
+  pub from : at ≤ i
+  pub same : skip (drop at text) ≡ skip (drop i text)
+
+module _ (text : List ℕ) (at : ℕ) where
+  pub skip-start : Skipping text at at
+  skip-start = record { from = omega arith; same = refl }
+
+  module _ {i : ℕ} (s : Skipping text at i) where
+    pub skip-more : i < length text → get_or text i 0 ≢ 10 → Skipping text at (i + 1)
+    skip-more h ne = record { from = omega (arith, s.from); same = s.same ∙ ap skip (next_byte text i h) ∙ skip-on (get_or text i 0) (drop (i + 1) text) ne }
+
+    pub skipping_found : i < length text → get_or text i 0 ≡ 10 → Skipped text at (Some (i + 1))
+    skipping_found h e = record {
+      same = sym (s.same ∙ ap skip (next_byte text i h) ∙ ap (λ (b : ℕ). skip (b ∷ drop (i + 1) text)) e ∙ skip-end (drop (i + 1) text));
+      within = (omega (arith, s.from), omega arith);
+    }
+
+    pub skipping_lost : length text ≤ i → Skipped text at None
+    skipping_lost h = record { same = sym (s.same ∙ ap skip (drop_of_length-le text h) ∙ skip-none); within = omega arith }
+
 -- ---- two numbers
 
 abbrev pub pair_told : List ℕ → rust.Option (ℕ × ℕ × ℕ) → Pair
@@ -112,6 +134,24 @@ TakenWithin text at None = 0 ≤ at
 pub record Taken (text : List ℕ) (at : ℕ) (r : rust.Option (code.Line × ℕ)) (p : Piece) : Type 0 where
   pub same : piece_told text r ≡ p
   pub within : TakenWithin text at r
+
+-- what is taken of what is skipped, and of two numbers
+module _ (text : List ℕ) (at : ℕ) {r : rust.Option ℕ} (f : Skipped text at r) where
+  pub comment_taken : {e : ℕ} → r ≡ Some e → Taken text at (Some (Comment, e)) (comment_of (skip (drop at text)))
+  comment_taken z = record { same = ap comment_of (sym (ap (skip_told text) z) ∙ f.same); within = subst (SkipWithin text at) z f.within }
+
+  pub comment_lost : r ≡ None → Taken text at None (comment_of (skip (drop at text)))
+  comment_lost z = record { same = ap comment_of (sym (ap (skip_told text) z) ∙ f.same); within = omega arith }
+
+module _ (text : List ℕ) (at : ℕ) {r : rust.Option (ℕ × ℕ × ℕ)} (f : Paired text at r (two (drop at text))) where
+  pub link_taken : {a b e : ℕ} → r ≡ Some (a, b, e) → Taken text at (Some (Link a b, e)) (piece_of edge_line (two (drop at text)))
+  link_taken z = record { same = ap (piece_of edge_line) (sym (ap (pair_told text) z) ∙ f.same); within = subst (PairWithin text at) z f.within }
+
+  pub counts_taken : {a b e : ℕ} → r ≡ Some (a, b, e) → Taken text at (Some (Counts a b, e)) (piece_of counts (two (drop at text)))
+  counts_taken z = record { same = ap (piece_of counts) (sym (ap (pair_told text) z) ∙ f.same); within = subst (PairWithin text at) z f.within }
+
+  pub pair_lost : (g : ℕ → ℕ → Line) → r ≡ None → Taken text at None (piece_of g (two (drop at text)))
+  pair_lost g z = record { same = ap (piece_of g) (sym (ap (pair_told text) z) ∙ f.same); within = omega arith }
 
 -- ---- as code reads two numbers
 
@@ -157,7 +197,49 @@ module _ (text : List ℕ) (at : ℕ) where
             within = (omega (arith, f.within.0, g.within.0), omega arith);
           }
 
+-- ---- as code reads them, field by field
+
+module _ (text : List ℕ) (at : ℕ) {r : rust.Option code-field.Field} (f : ReadField text at r) where
+  -- the definition goes by the field that is told
+  told : {s : rust.Option code-field.Field} (x : Pair) (g : ℕ → List ℕ → Pair) → r ≡ s → on_field (field_told text s) x unpaired g ≡ on_field (field (drop at text)) x unpaired g
+  told x g e = ap (λ (y : Field). on_field y x unpaired g) (sym (ap (field_told text) e) ∙ f.same)
+
+  module _ (x : Pair) (g : ℕ → List ℕ → Pair) where
+    pub no_item : {s : rust.Option code-field.Field} → r ≡ s → on_field (field_told text s) x unpaired g ≡ unpaired → Paired text at None (on_field (field (drop at text)) x unpaired g)
+    no_item e z = record { same = sym z ∙ told x g e; within = omega arith }
+
+    pub an_item : {a p : ℕ} {q : rust.Option (ℕ × ℕ × ℕ)} → r ≡ Some (fld.Item a p) → Paired text p q (g a (drop p text)) → Paired text at q (on_field (field (drop at text)) x unpaired g)
+    an_item {a} {p} {q} e v = record { same = v.same ∙ told x g e; within = later q v.within }
+      where
+        w : (at < p) × (p ≤ length text)
+        w = subst (FieldWithin text at) e f.within
+
+        later : (q : rust.Option (ℕ × ℕ × ℕ)) → PairWithin text p q → PairWithin text at q
+        later (Some (b, c, d)) h = (omega (arith, w.0, h.0), h.1)
+        later None h = omega arith
+
+  pub line-ends : (a b : ℕ) → r ≡ Some fld.End → Paired text at (Some (a, b, at + 1)) (closed a b (drop at text))
+  line-ends a b e =
+      let z : field (drop at text) ≡ end = sym (sym (ap (field_told text) e) ∙ f.same) in
+      let h = end_within text at z in
+      record {
+        same = ap (pair a b) (sym (ap (drop 1) (next_byte text at h))) ∙ told (pair a b (drop 1 (drop at text))) (λ n l. unpaired) e;
+        within = (omega arith, omega arith);
+      }
+
+  pub end-here : r ≡ Some fld.End → at < length text
+  end-here e = end_within text at (sym (sym (ap (field_told text) e) ∙ f.same))
+
+pub as_two : (text : List ℕ) {at : ℕ} {r : rust.Option (ℕ × ℕ × ℕ)} → Paired text at r (on_field (field (drop at text)) unpaired unpaired second) → Paired text at r (two (drop at text))
+unfolding two
+as_two text v = v
+
 -- ---- a line, by its first bytes
+
+-- a line that is taken later in the text
+later : (text : List ℕ) {at to : ℕ} (r : rust.Option (code.Line × ℕ)) → at ≤ to → TakenWithin text to r → TakenWithin text at r
+later text (Some (x, e)) h w = (omega (arith, w.0), w.1)
+later text None h w = omega arith
 
 module _ (text : List ℕ) (at : ℕ) (h : at < length text) where
   abbrev b : ℕ
@@ -191,9 +273,32 @@ module _ (text : List ℕ) (at : ℕ) (h : at < length text) where
   pub on_other : b ≢ 99 → b ≢ 101 → begins counts_word (drop at text) ≡ false → broken ≡ line_at (drop at text)
   on_other n m e = sym (by_byte false false false (ne_eqb b 99 n) (ne_eqb b 101 m) e)
 
+  -- the same of a line that is taken
+  pub comment_line : {r : rust.Option (code.Line × ℕ)} → b ≡ 99 → Taken text (at + 1) r (comment_of (skip l)) → Taken text at r (line_at (drop at text))
+  comment_line {r} e t = record { same = t.same ∙ sym (by_byte true (eqb b 101) (begins counts_word (drop at text)) (eq-eqb b 99 e) refl refl); within = later text r (omega arith) t.within }
+
+  pub link_line : {r : rust.Option (code.Line × ℕ)} → b ≢ 99 → b ≡ 101 → Taken text (at + 1) r (piece_of edge_line (two l)) → Taken text at r (line_at (drop at text))
+  link_line {r} n e t = record { same = t.same ∙ sym (by_byte false true (begins counts_word (drop at text)) (ne_eqb b 99 n) (eq-eqb b 101 e) refl); within = later text r (omega arith) t.within }
+
+  pub counts_line : {r : rust.Option (code.Line × ℕ)} → b ≢ 99 → b ≢ 101 → begins counts_word (drop at text) ≡ true → Taken text (at + 6) r (piece_of counts (two (drop (at + 6) text))) → Taken text at r (line_at (drop at text))
+  counts_line {r} n m e t = record {
+    same = t.same ∙ ap (λ (x : List ℕ). piece_of counts (two x)) (sym (drop-drop 6 at text)) ∙ sym (by_byte false false true (ne_eqb b 99 n) (ne_eqb b 101 m) e);
+    within = later text r (omega arith) t.within;
+  }
+
+  pub other_line : b ≢ 99 → b ≢ 101 → begins counts_word (drop at text) ≡ false → Taken text at None (line_at (drop at text))
+  other_line n m e = record { same = on_other n m e; within = omega arith }
+
+  -- the words lie in the text
+  pub words_within : begins counts_word (drop at text) ≡ true → at + 6 ≤ length text
+  words_within e = omega (arith, ap length (begins_sound counts_word (drop at text) e), length-drop at text)
+
   -- the rest of the text, cut out of it
   pub begun : {r x : Bool} → r ≡ starts_with eqb (take (length text - at) (drop at text)) counts_word → r ≡ x → begins counts_word (drop at text) ≡ x
   begun e f = begins_is counts_word (drop at text) (e ∙ ap (λ (m : List ℕ). starts_with eqb m counts_word) (take_all (length text - at) (drop at text) (omega (arith, length-drop at text)))) f
+
+  pub begun_in : {r : Bool} → r ≡ begins counts_word (take (length text - at) (drop at text)) → r ≡ begins counts_word (drop at text)
+  begun_in e = e ∙ ap (begins counts_word) (take_all (length text - at) (drop at text) (omega (arith, length-drop at text)))
 
 -- the place after a newline lies in the text
 pub skipped_in : (text : List ℕ) (from : ℕ) {r : rust.Option ℕ} {e : ℕ} → r ≡ Some e → Skipped text from r → e ≤ length text

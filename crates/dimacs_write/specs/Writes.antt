@@ -1,11 +1,14 @@
 -- What the writer owes at each of its ends. Assumes nothing.
-use Rattle.std.specs.Prelude.{ℕ, ◌+◌, ◌*◌, ◌/◌, ◌≤◌, ◌<◌, ◌≡◌, ltb, length, drop, set, Ok, ⊤}
-use Rattle.std.proofs.Common.{sym, ap₂, ◌∙◌, arith, le-ltb}
+use Rattle.std.specs.Prelude.{ℕ, ◌+◌, ◌*◌, ◌/◌, ◌≤◌, ◌<◌, ◌≡◌, Bool, ltb, length, drop, set, Result, Ok, Err, ⊤}
+use Rattle.std.proofs.Common.{sym, ap₂, ◌∙◌, arith, lt-ltb, le-ltb}
 use Rattle.std.proofs.Math.Path.{ap, refl}
 use mathlib.Core.List.{List, [], ◌∷◌, ◌++◌}
-use Rattle.std.proofs.Math.Option.{none}
+use Rattle.std.proofs.Math.Option.{none, some}
 use Rattle.answers.specs.Order.{first}
-use Rattle.answers.specs.Pairs.{lent-fine}
+use Rattle.answers.specs.Pairs.{lent_refused, lent-short, lent-fine}
+use Rattle.answers.specs.Told.{tell, against}
+use Rattle.answers.specs.declared.Refusal.{Refusal}
+use Rattle.answers.specs.declared.Refusal.TheVariants.{NoRoom}
 use Rattle.decimal.specs.Write.{Put, put_long, put_then, put_byte, put_as}
 use Rattle.line.specs.Text.{spaced, line_end}
 use Rattle.line_put.specs.Writes.{put_front, first-room, then_room}
@@ -13,8 +16,8 @@ use Rattle.mesh.specs.Kinds.{kind_of, mesh_of}
 use Rattle.dimacs.specs.Text.{edge, counts_word, pair_text, edge_text, edges_text, each, row, edges, link_count, graph_text}
 use Rattle.dimacs.specs.Rows.{onward}
 use Rattle.dimacs.specs.Pieces.{Eaching, each-room, each_all, onward-text, onward_blank}
-use Rattle.dimacs.specs.Needs.{Rowed, Linking, link_of, row-links, near_small, all-rows}
-use Rattle.dimacs.specs.Says.{export_faults_in, write_leaves}
+use Rattle.dimacs.specs.Needs.{Exported, Rowed, Linking, link_of, row-links, near_small, all-rows, export_fine}
+use Rattle.dimacs.specs.Says.{export_faults_in, write_told, write_leaves}
 use Rattle.dimacs_size.specs.Sizes.{Rows}
 
 -- ---- a line
@@ -90,11 +93,32 @@ module _ {k n relays links : ℕ} (r : Rows k n relays links) where
       pub graph_put : {q : ℕ} {now : List ℕ} → Put mid p (edges_text (edges (mesh_of k n))) q now → Put was 0 (graph_text (mesh_of k n)) q now
       graph_put v = put_as as_graph (put_then w v)
 
--- ---- what is left
+-- ---- what is told and left
 
+module _ (k n : ℕ) (out : List ℕ) where
+  abbrev text : List ℕ
+  text = graph_text (mesh_of k n)
+
+  abbrev short : Bool
+  short = ltb (length out) (length text)
+
+  module _ {r : Result ⊤ Refusal} (e : against r ≡ first (export_faults_in (kind_of k) n)) where
+    pub write_exported : r ≡ Ok tt → Exported k n
+    write_exported f = export_fine k n (sym e ∙ ap against f)
+
+    pub write_refused : {why : Refusal} → r ≡ Err why → (tell (some why) 0 0 ≡ write_told k n out) × (out ≡ write_leaves k n out)
+    write_refused f = lent_refused (export_faults_in (kind_of k) n) short (length text) out (text ++ drop (length text) out) e f
+
+    pub write_short : {bytes : ℕ} → r ≡ Ok tt → bytes ≡ length text → length out < bytes → (tell (some NoRoom) 0 0 ≡ write_told k n out) × (out ≡ write_leaves k n out)
+    write_short f b h = lent-short (export_faults_in (kind_of k) n) short (length text) out (text ++ drop (length text) out) e f (lt-ltb (length out) (length text) (omega arith))
+
+    pub write_fine : {bytes p : ℕ} {now : List ℕ} → r ≡ Ok tt → bytes ≡ length text → bytes ≤ length out → Put out 0 text p now → (tell none 0 p ≡ write_told k n out) × (now ≡ write_leaves k n out)
+    write_fine f b h w =
+        let (told_long, left) = put_front (omega arith) w in
+        let (t, l) = lent-fine (export_faults_in (kind_of k) n) short (length text) out (text ++ drop (length text) out) e f (le-ltb (length out) (length text) (omega arith)) in
+        (ap (λ (x : ℕ). tell none 0 x) told_long ∙ t, left ∙ l)
+
+-- of a mesh that nothing stands against
 pub write_left : (k n : ℕ) (out : List ℕ) {bytes p : ℕ} {now : List ℕ} → none ≡ first (export_faults_in (kind_of k) n) → bytes ≡ length (graph_text (mesh_of k n)) → bytes ≤ length out
     → Put out 0 (graph_text (mesh_of k n)) p now → now ≡ write_leaves k n out
-write_left k n out e b h w =
-    let text : List ℕ = graph_text (mesh_of k n) in
-    let (told_long, left) = put_front (omega arith) w in
-    left ∙ (lent-fine (export_faults_in (kind_of k) n) (ltb (length out) (length text)) (length text) out (text ++ drop (length text) out) {T = ⊤} {r = Ok tt} e refl (le-ltb (length out) (length text) (omega arith))).1
+write_left k n out e b h w = (write_fine k n out {r = Ok tt} e refl b h w).1

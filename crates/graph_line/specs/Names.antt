@@ -2,15 +2,16 @@
 use Rattle.std.specs.Prelude.{ℕ, zero, suc, ◌+◌, ◌^◌, ◌≤◌, ◌<◌, ◌≡◌, refl, Bool, true, false, ◌≢◌, List, [], ◌∷◌, ◌++◌, length, get_or, take, drop}
 use Rattle.std.specs.Prelude as rust
 use Rattle.std.specs.Prelude.{Some, None}
-use Rattle.std.proofs.Common.{arith, length-append}
+use Rattle.std.proofs.Common.{sym, ap, ◌∙◌, subst, arith, length-append}
 use Rattle.std.proofs.Math.Option.{Option, none, some}
 use Rattle.scan.specs.Scan.{pick}
 use Rattle.decimal.specs.Number.{limit, number, more}
 use Rattle.mesh.specs.Kinds.{CUBE, TWO}
 use Rattle.line.specs.Text.{cube_word, two_word, spaced, line_end}
-use Rattle.line.specs.Parse.{field, fields, begins}
+use Rattle.line.specs.Parse.{field, fields, begins, begins_sound}
 use Rattle.line.specs.Written.{refused_word}
 use Rattle.line_put.specs.Writes.{spaced-short}
+use Rattle.line_take.specs.Reads.{ReadFields, fields_told, FieldsWithin}
 use Rattle.mesh.specs.declared.Mesh.{Mesh}
 
 -- a kind and a size, or none
@@ -42,6 +43,52 @@ named_of None = nothing
 
 abbrev pub refusal : ℕ → ℕ → List ℕ
 refusal n p = refused_word ++ (spaced (n ∷ p ∷ []) ++ line_end)
+
+-- ---- as code reads it
+
+module _ (kind : ℕ) (rest out : List ℕ) {r : rust.Option ℕ} (f : ReadFields out r (fields 1 [] rest)) where
+  pub no_number : r ≡ None → nothing ≡ sized kind rest
+  no_number e = ap (alone kind) (sym (ap (fields_told out) e) ∙ f.same)
+
+  module _ (long : length out ≡ 1) {n : ℕ} (e : r ≡ Some n) where
+    told : alone kind (some (take n out)) ≡ sized kind rest
+    told = ap (alone kind) (sym (ap (fields_told out) e) ∙ f.same)
+
+    pub one_number : n ≡ 1 → mesh kind (get_or out 0 0) ≡ sized kind rest
+    one_number z = go out long ∙ ap (λ (k : ℕ). alone kind (some (take k out))) (sym z) ∙ told
+      where
+        go : (l : List ℕ) → length l ≡ 1 → mesh kind (get_or l 0 0) ≡ alone kind (some (take 1 l))
+        go [] h = absurd (omega arith)
+        go (x ∷ l) h = refl
+
+    pub none-there : n ≢ 1 → nothing ≡ sized kind rest
+    none-there ne =
+        let w : n ≤ length out = subst (FieldsWithin out) e f.within in
+        let z : n ≡ 0 = omega arith in
+        ap (λ (k : ℕ). alone kind (some (take k out))) (sym z) ∙ told
+
+module _ (text : List ℕ) where
+  begun : (ws : List ℕ) → begins ws text ≡ true → length ws ≤ length text
+  begun ws e = omega (arith, ap length (begins_sound ws text e), length-append ws (drop (length ws) text))
+
+  pub cube_within : begins cube_word text ≡ true → 4 ≤ length text
+  cube_within e = begun cube_word e
+
+  pub two_within : begins two_word text ≡ true → 3 ≤ length text
+  two_within e = begun two_word e
+
+  pub name_cube : {x : Name} → begins cube_word text ≡ true → x ≡ sized CUBE (drop 4 text) → x ≡ named text
+  name_cube e z = z ∙ ap (λ (b : Bool). pick b (sized CUBE (drop 4 text)) (pick (begins two_word text) (sized TWO (drop 3 text)) nothing)) (sym e)
+
+  module _ (c : begins cube_word text ≡ false) where
+    by_two : pick (begins two_word text) (sized TWO (drop 3 text)) nothing ≡ named text
+    by_two = ap (λ (b : Bool). pick b (sized CUBE (drop 4 text)) (pick (begins two_word text) (sized TWO (drop 3 text)) nothing)) (sym c)
+
+    pub name_two : {x : Name} → begins two_word text ≡ true → x ≡ sized TWO (drop 3 text) → x ≡ named text
+    name_two e z = z ∙ ap (λ (b : Bool). pick b (sized TWO (drop 3 text)) nothing) (sym e) ∙ by_two
+
+    pub name_none : begins two_word text ≡ false → nothing ≡ named text
+    name_none e = ap (λ (b : Bool). pick b (sized TWO (drop 3 text)) nothing) (sym e) ∙ by_two
 
 -- a refusal takes 50 bytes at most
 pub refusal-short : (n p : ℕ) → n < limit → p < limit → length (refusal n p) ≤ 50

@@ -1,10 +1,10 @@
--- A buffer whose end is read into keeps its length (`read_long`), and what came lies in it (`read_within`); whether a line end has come is told by the library's search (`end_is`), and stays so after a read behind it (`no_end_kept`). Assumes nothing.
-use Rattle.std.specs.Prelude.{ℕ, ◌+◌, ◌-◌, ◌≤◌, ◌≡◌, Bool, false, List, eqb, length, get_or, take, drop}
+-- A buffer whose end is read into keeps its length (`read_long`), and what came lies in it (`read_within`); a line end in what came is one in the buffer (`end_within`), and where none came there is none (`no_end_within`), as the library's search tells it (`end_is`), nor after a read behind it (`no_end_kept`). Assumes nothing.
+use Rattle.std.specs.Prelude.{ℕ, ◌+◌, ◌-◌, ◌≤◌, ◌<◌, ◌≡◌, Bool, true, false, List, eqb, length, get_or, take, drop}
 use Rattle.std.specs.List.{list_any}
 use Rattle.std.proofs.Common.{sym, ap, ◌∙◌, arith, length-take, length-drop, length-take-le, get_or-take}
 use borrow.Rule.Slice.PartMut.{put_mid, mid_of, same_len_mid}
 use Rattle.scan.specs.Scan.{any}
-use Rattle.scan.specs.Laws.{any_false, false-any}
+use Rattle.scan.specs.Laws.{any-true, true-any, any_false, false-any}
 use Rattle.line.specs.Listed.{listed}
 use Rattle.input.specs.Says.{is_end}
 
@@ -17,6 +17,17 @@ module _ (n : ℕ) (buf last : List ℕ) (within : n ≤ length buf) (kept : len
 
 pub part_long : (n : ℕ) (l : List ℕ) → n ≤ length l → n ≡ length (take n l)
 part_long n l h = sym (length-take-le n l h)
+
+-- a line end in what came is one in the buffer
+pub end_within : (n : ℕ) (l : List ℕ) {r : Bool} → n ≤ length l → r ≡ any (is_end (take n l)) 0 (length (take n l)) → r ≡ true → any (is_end l) 0 n ≡ true
+end_within n l h e t =
+    let f = any-true (is_end (take n l)) 0 (length (take n l)) (sym e ∙ t) in
+    let near : f.0 < n = omega (arith, f.2, length-take-le n l h) in
+    true-any (is_end l) 0 n f.0 (omega arith) (omega arith) (ap (λ (x : ℕ). eqb x 10) (sym (get_or-take n l f.0 0 near)) ∙ f.3)
+
+-- where no line end came there is none in the buffer
+pub no_end_within : (n : ℕ) (l : List ℕ) {r : Bool} → n ≤ length l → r ≡ any (is_end (take n l)) 0 (length (take n l)) → r ≡ false → any (is_end l) 0 n ≡ false
+no_end_within n l h e f = false-any (is_end l) 0 n (λ j a near. ap (λ (x : ℕ). eqb x 10) (sym (get_or-take n l j 0 (omega arith))) ∙ any_false (is_end (take n l)) 0 (length (take n l)) (sym e ∙ f) j (omega arith) (omega (arith, length-take-le n l h)))
 
 -- what the library's search says of a line end in what came
 pub end_is : (n : ℕ) (l : List ℕ) {r x : Bool} → n ≤ length l → r ≡ list_any (λ b. eqb b 10) (take n l) → r ≡ x → any (is_end l) 0 n ≡ x

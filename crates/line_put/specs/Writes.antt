@@ -83,6 +83,28 @@ module _ (was : List ℕ) (at : ℕ) (list : List ℕ) where
 
 -- ---- a word
 
+-- written by a loop, which has come to i
+pub record Wording (was ws : List ℕ) (i : ℕ) (now : List ℕ) : Type 0 where
+  pub within : i ≤ length ws
+  pub put : Put was 0 (take i ws) i now
+
+module _ (was ws : List ℕ) where
+  pub word-start : Wording was ws 0 was
+  word-start = record { within = omega arith; put = put-none was 0 }
+
+  module _ {i : ℕ} {now : List ℕ} (l : Wording was ws i now) where
+    pub word_room : i < length ws → 0 + length ws ≤ length was → i < length now
+    word_room h g = omega (arith, put_long l.put)
+
+    pub word_more : i < length ws → Wording was ws (i + 1) (set now i (get_or ws i 0))
+    word_more h = record {
+      within = omega arith;
+      put = put_as (sym (ap (λ (k : ℕ). take k ws) (add-one i) ∙ take-suc ws i 0 h)) (put_then l.put (put_byte now i (get_or ws i 0)));
+    }
+
+    pub word-all : length ws ≤ i → Put was 0 ws i now
+    word-all h = put_as (take_all i ws h) l.put
+
 -- copied to the front
 pub word-put : (was ws : List ℕ) {now : List ℕ} → now ≡ ws → 0 + length ws ≤ length was → Put was 0 ws (length ws) (now ++ drop (length ws) was)
 word-put was ws {now} e h =

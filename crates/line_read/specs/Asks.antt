@@ -21,6 +21,9 @@ first-bytes text {n} e = go (dec_le (length text) 1024)
     go (yes h) = take_all n text (omega arith) ∙ sym (take_all most_bytes text h)
     go (no ne) = let same : n ≡ most_bytes = omega arith in ap (λ (k : ℕ). take k text) same
 
+pub bytes_long : (text : List ℕ) {n : ℕ} → n ≡ min (length text) 1024 → n ≡ length (take n text)
+bytes_long text {n} e = sym (length-take-le n text (omega arith))
+
 -- t is told and l is left of a request
 abbrev Tells : (was : List ℕ) → Told Head → List ℕ → Option Request → Type 0
 Tells was t l o = (t ≡ asked_told o (length was)) × (l ≡ asked_leaves o was)
@@ -52,6 +55,9 @@ module _ (text numbers was : List ℕ) {n : ℕ} {r : rust.Option (ℕ × ℕ)} 
 
     pub asks_short : length was < count → Tells was (told 8 0 no_head) was (asked text)
     asks_short h = of_room true (lt-ltb (length was) (length (take count (drop 2 numbers))) (omega (arith, many))) refl refl
+
+    pub asks_room : count ≤ length was → (count + 2 ≤ length numbers) × (count ≤ length was)
+    asks_room h = (counted, h)
 
     pub asks_fine : {now : List ℕ} → count ≤ length was → now ≡ take count (drop 2 numbers) ++ drop count was
         → Tells was (told 0 0 (head kind (get_or numbers 0 0) (get_or numbers 1 0) count)) now (asked text)

@@ -1,3 +1,4 @@
 -- A request line read: why the reader keeps its promise.
 pub mod Reads
+pub mod Copies
 pub mod Asks

@@ -130,6 +130,44 @@ module _ (text : List ℕ) (at : ℕ) (out₀ : List ℕ) where
 
 -- ---- the first word
 
+-- a text that is shorter than a word does not begin with it
+begins-short : (ws text : List ℕ) → length text < length ws → begins ws text ≡ false
+begins-short [] text h = absurd (omega arith)
+begins-short (w ∷ ws) [] h = refl
+begins-short (w ∷ ws) (b ∷ l) h = go (eqb b w) (begins-short ws l (omega arith))
+  where
+    go : (x : Bool) → begins ws l ≡ false → pick x (begins ws l) false ≡ false
+    go true e = e
+    go false e = refl
+
+-- a loop over the word has come to i, and all before it is the same
+pub record Matching (ws text : List ℕ) (i : ℕ) : Type 0 where
+  pub within : i ≤ length ws
+  pub same : begins ws text ≡ begins (drop i ws) (drop i text)
+
+module _ (ws text : List ℕ) where
+  pub shorter : length text < length ws → false ≡ begins ws text
+  shorter h = sym (begins-short ws text h)
+
+  pub matching_start : Matching ws text 0
+  matching_start = record { within = omega arith; same = refl }
+
+  module _ {i : ℕ} (m : Matching ws text i) (h : length ws ≤ length text) where
+    both : i < length ws → begins (drop i ws) (drop i text) ≡ pick (eqb (get_or text i 0) (get_or ws i 0)) (begins (drop (i + 1) ws) (drop (i + 1) text)) false
+    both g = ap (λ (l : List ℕ). begins l (drop i text)) (next_byte ws i g) ∙ ap (begins (get_or ws i 0 ∷ drop (i + 1) ws)) (next_byte text i (omega arith))
+
+    pub matching_more : i < length ws → get_or text i 0 ≡ get_or ws i 0 → Matching ws text (i + 1)
+    matching_more g e = record {
+      within = omega arith;
+      same = m.same ∙ both g ∙ ap (λ (x : Bool). pick x (begins (drop (i + 1) ws) (drop (i + 1) text)) false) (eq-eqb (get_or text i 0) (get_or ws i 0) e);
+    }
+
+    pub matching_not : i < length ws → get_or text i 0 ≢ get_or ws i 0 → false ≡ begins ws text
+    matching_not g ne = sym (m.same ∙ both g ∙ ap (λ (x : Bool). pick x (begins (drop (i + 1) ws) (drop (i + 1) text)) false) (ne_eqb (get_or text i 0) (get_or ws i 0) ne))
+
+    pub matching_all : length ws ≤ i → true ≡ begins ws text
+    matching_all g = sym (m.same ∙ ap (λ (l : List ℕ). begins l (drop i text)) (drop_of_length-le ws g))
+
 -- what the library's test says of a text that begins with a word
 pub begins_is : (ws text : List ℕ) {r x : Bool} → r ≡ starts_with eqb text ws → r ≡ x → begins ws text ≡ x
 begins_is ws text {r} {x} e f = go ws text ∙ sym e ∙ f
