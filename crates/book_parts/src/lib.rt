@@ -49,5 +49,7 @@ pub fn copy(bytes: &[u8], at: usize, out: &mut [u8])
     requires { at + length bytes.now ≤ length out.old }
     ensures { out.new ≡ sets out.old at bytes.now }
 {
-    out[at..at + bytes.len()].copy_from_slice(bytes);
+    for q in 0..bytes.len() {
+        out[at + q] = bytes[q];
+    }
 }

@@ -1,7 +1,7 @@
 -- A column being filled from its front, a place a turn (`Filling`), and the tests and counts of the loops that fill one; what code has of one path (`stopped-told`,
 -- `whole-told`). Assumes nothing.
 use Rattle.std.specs.Prelude.{ℕ, zero, suc, ◌+◌, ◌-◌, ◌≤◌, ◌<◌, ◌≡◌, refl, Bool, true, false, ◌||◌, List, [], ◌∷◌, ◌++◌, length, take, drop, set, get_or}
-use Rattle.std.proofs.Common.{sym, ◌∙◌, append_assoc, add-one, arith, length-set, length-drop, length-append, drop-cons}
+use Rattle.std.proofs.Common.{sym, ◌∙◌, append_assoc, add-one, arith, length-set, length-drop, length-append, take-suc, drop-cons}
 use Rattle.std.proofs.Math.Path.{ap, ap₂}
 use Rattle.std.proofs.Math.Bool.{not}
 use Rattle.std.proofs.Math.Decide.{ℕ_discrete}
@@ -17,23 +17,30 @@ use Rattle.paths.specs.Whole.{Failed, failed, pair, cut, stops, severs, broken, 
 use Rattle.columns.specs.Says.{ahead, marks}
 
 -- the first i places of `out` hold `column`, the others what was there
-pub record Filling (column : List ℕ) (i : ℕ) (was out : List ℕ) : Type 0 where
+pub record Filling {A : Type 0} (column : List A) (i : ℕ) (was out : List A) : Type 0 where
   pub holds : out ≡ ahead i column was
   pub size : length column ≡ i
   pub long : length out ≡ length was
 
-pub filling_starts : (was : List ℕ) → Filling [] 0 was was
+pub filling_starts : {A : Type 0} (was : List A) → Filling [] 0 was was
 filling_starts was = record { holds = refl; size = refl; long = refl }
 
-put_next : (column was : List ℕ) (i v : ℕ) → length column ≡ i → i < length was → set (ahead i column was) i v ≡ ahead (i + 1) (column ++ (v ∷ [])) was
-put_next column was i v e h = rw (drop-cons was i 0) (rw (set_at column _ _ _ i e) (simp (add-one, append_assoc)))
+put_next : {A : Type 0} (column was : List A) (i : ℕ) (v : A) → length column ≡ i → i < length was → set (ahead i column was) i v ≡ ahead (i + 1) (column ++ (v ∷ [])) was
+put_next column was i v e h = rw (drop-cons was i v) (rw (set_at column _ _ _ i e) (simp (add-one, append_assoc)))
 
-pub filling_more : {column was out : List ℕ} {i : ℕ} (v : ℕ) → Filling column i was out → i < length was → Filling (column ++ (v ∷ [])) (i + 1) was (set out i v)
-filling_more {column} {was} {out} {i} v f h = record {
-  holds = ap (λ (l : List ℕ). set l i v) f.holds ∙ put_next column was i v f.size h;
+pub filling_more : {A : Type 0} {column was out : List A} {i : ℕ} (v : A) → Filling column i was out → i < length was → Filling (column ++ (v ∷ [])) (i + 1) was (set out i v)
+filling_more {A} {column} {was} {out} {i} v f h = record {
+  holds = ap (λ (l : List A). set l i v) f.holds ∙ put_next column was i v f.size h;
   size = simp length-append (omega (arith, f.size));
   long = simp length-set f.long;
 }
+
+-- one value more of a list that is copied
+pub copied_next : {A : Type 0} (from : List A) (v : A) {was out : List A} {i : ℕ} → v ≡ get_or from i v → Filling (take i from) i was out → i < length was → i < length from
+    → Filling (take (i + 1) from) (i + 1) was (set out i v)
+copied_next from v {was} {out} {i} e f h l =
+    let more : take (i + 1) from ≡ take i from ++ (v ∷ []) = rw add-one (take-suc from i v l ∙ ap (λ x. take i from ++ (x ∷ [])) (sym e)) in
+    rw more (filling_more v f h)
 
 -- ---- a column of marks
 

@@ -157,7 +157,9 @@ pub fn copy<T: Copy>(from: &[T], k: usize, to: &mut [T])
     requires { Copied k (length from.now) (length to.old) }
     ensures { to.new ≡ ahead k (take k from.now) to.old }
 {
-    to[..k].copy_from_slice(&from[..k]);
+    for i in 0..k {
+        to[i] = from[i];
+    }
 }
 
 // Fills the three columns for the paths to the targets, and counts the paths that are whole.

@@ -35,6 +35,7 @@ pub trait Facts: Copy {
     ghost short: { (x : Self) → is_known x ≡ true → (mesh x).longest < 207 };
 
     // What stands against the size: 1.
+    #[inline(always)]
     final fn checked(self) -> Result<(), Refusal>
         ensures { against result ≡ first (size_faults (not (is_known self))) }
     {
@@ -78,6 +79,7 @@ pub trait Facts: Copy {
     }
 
     // What stands against a source and a target in a mesh of this size: 1, 2, 5.
+    #[inline(always)]
     final fn pair(self, source: u64, target: u64) -> Result<(), Refusal>
         ensures { against result ≡ first (pair_faults_of (is_known self) (mesh self).relays source target) }
     {

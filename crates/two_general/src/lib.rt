@@ -351,7 +351,8 @@ fn draw(home: Home, source: u64, targets: Targets, w: usize, places: &mut [u64],
     write_paths(&draft, &ways, &heads, w, places, counts);
 }
 
-// Plans a request of order 2 to 5: fewer targets than links, or one of them outside the source's block.
+// Plans a request of order 2 to 5: fewer targets than links, or one of them outside the source's block. Its two grids are in no other call's stack: it is kept a function of its own.
+#[inline(never)]
 pub fn general(
     m: u32,
     source: u64,

@@ -126,7 +126,8 @@ fn write_path(round: &Round, grid: &[u64; 560], j: usize, places: &mut [u64], co
 }
 
 // Writes a fan to the targets, m + 1 in the source's block; a path takes w places. To 1, 2 and 3 from 0 in order 2, 3 goes around:
-// 0, 4, 5, 7, 39, 38, 36, 32, 33, 35, 3.
+// 0, 4, 5, 7, 39, 38, 36, 32, 33, 35, 3. Its grid is in no other call's stack: it is kept a function of its own.
+#[inline(never)]
 pub fn plan(m: u32, source: u64, targets: &[u64], w: usize, places: &mut [u64], counts: &mut [u64])
     requires { Trip m source w targets.now places.old counts.old }
     ensures { Drawn (two m) source targets.now places.old counts.old places.new counts.new }

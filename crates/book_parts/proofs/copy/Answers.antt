@@ -1,11 +1,13 @@
--- `book_parts::copy` meets its contract: the bytes are put in their place. Assumes nothing.
-use Rattle.std.proofs.Common.{◌+◌, ◌-◌, ap, ◌∙◌, length, arith}
-use Rattle.std.proofs.lemmas.List.Edits.{sets}
-use Rattle.book_parts.specs.Moved.{part_put}
+-- `book_parts::copy` meets its contract: the bytes are put in their place one by one. Assumes nothing.
+use Rattle.std.proofs.Common.{◌+◌, ◌-◌, ◌≤◌, refl, arith, length, rules}
+use Rattle.book_parts.specs.Moved.{Copied, copied_none, copied_more, copied_all}
 use Rattle.book_parts.proofs.copy.Goals as goal
 
+pub loop-q-init : goal.loop-q-init
+loop-q-init c = (c.requires, copied_none _ _ _)
+
+pub loop-q-preserved : goal.loop-q-preserved
+loop-q-preserved c = let inv = c.loop-q.invariant in (inv.0, copied_more inv.1 c.loop-q-test.true refl)
+
 pub returns : goal.returns
-returns c =
-    let a = c.args in
-    part_put a.out.now c.copy_from_slice.new.self a.at (a.at + length a.bytes.now - a.at) (omega (arith, ap length c.copy_from_slice.ensures.after)) (omega arith)
-    ∙ ap (sets a.out.now a.at) c.copy_from_slice.ensures.after
+returns c = copied_all c.loop-q.invariant.1 c.loop-q-test.false
