@@ -50,7 +50,6 @@ fn again_at(targets: &[u64]) -> Option<usize>
 }
 
 // What stands against a list of targets by themselves: 5, 6, 7.
-#[inline(always)]
 fn targets_checked(relays: u64, source: u64, targets: &[u64]) -> Result<(), Refusal>
     ensures { against result ≡ first (target_faults relays source targets.now) }
 {
@@ -67,7 +66,6 @@ fn targets_checked(relays: u64, source: u64, targets: &[u64]) -> Result<(), Refu
 }
 
 // What stands against a request in a mesh of so many relays, each with so many links: 2, 3, 4, 5, 6, 7.
-#[inline(always)]
 pub fn request(relays: u64, links: u64, source: u64, targets: &[u64]) -> Result<(), Refusal>
     ensures { against result ≡ first (request_faults relays links source targets.now) }
 {
@@ -99,7 +97,6 @@ pub fn pair(relays: u64, source: u64, target: u64) -> Result<(), Refusal>
 }
 
 // The same of two ends that are to be different: 2, 5, 6.
-#[inline(always)]
 pub fn ends(relays: u64, source: u64, target: u64) -> Result<(), Refusal>
     ensures { against result ≡ first (end_faults relays source target) }
 {
