@@ -17,7 +17,7 @@ use Rattle.book.specs.Open.{fine_length, piece_length}
 use Rattle.book_open.specs.Needs.{is_none, fine}
 
 -- what the check says
-pub fine_is : (l : List ℕ) (r : Result Versioned Flaw) → reading_told (head_told r) ≡ sheet_told l (check_against (version_of l) l) → is_ok r ≡ fine l
+pub fine_is : {V : Type 0} (l : List ℕ) (r : Result (Versioned V) Flaw) → reading_told (head_told r) ≡ sheet_told l (check_against (version_of l) l) → is_ok r ≡ fine l
 fine_is l (Ok x) t = sym (ap is_none (check_fan l x.head t).fine)
 fine_is l (Err f) t = sym (ap is_none (check_refused l f t))
 

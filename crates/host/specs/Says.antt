@@ -9,6 +9,7 @@ use Rattle.sheet.specs.Format.{VERSION, version_of, kind_at, size_at, source_at,
 use Rattle.sheet.specs.Says.{settled, tell_written, tell_read}
 use Rattle.sheet.specs.declared.Flaw.{Flaw}
 use Rattle.sheet.specs.declared.Head.{Head}
+use Rattle.sheet.specs.declared.Version.{Version}
 use Rattle.sheet.specs.declared.Versioned.{Versioned}
 use Rattle.sheet_write.specs.Says.{write_against, sheet, Wrote, writes_against, sheet_in, WroteZoned}
 use Rattle.sheet_check.specs.Says.{sheet_told}
@@ -53,7 +54,7 @@ pub record WroteZonedIn (v kind size s : ℕ) (targets places counts zones out :
 
 pub record ReadZonedIn (l places counts targets zones : List ℕ) (r : GustZonedReading) (places₁ counts₁ targets₁ zones₁ : List ℕ) : Type 0 where
   pub told : r ≡ versioned_in (settled (zones_against (version_of l) l places counts targets zones) (version_of l) 0) (sheet_told l (zones_against (version_of l) l places counts targets zones))
-  pub reading : Result Versioned Flaw
+  pub reading : Result (Versioned Version) Flaw
   pub left : ReadEither l places counts targets zones reading places₁ counts₁ targets₁ zones₁
 
 pub record MovedIn (v u : ℕ) (l out : List ℕ) (r : GustAnswer) (out₁ : List ℕ) : Type 0 where

@@ -16,7 +16,7 @@ use arrivals::{Dropped, Record};
 use judge::Fault;
 use mesh::Mesh;
 use requests::Facts;
-use sheet::{Flaw, Head, Versioned};
+use sheet::{Flaw, Head, Version, Versioned};
 
 // One value: hops, a distance, 1 or 0 for yes or no, how many paths are planned or are whole, how many bytes were written.
 #[repr(C)]
@@ -183,7 +183,7 @@ pub fn of_reading(read: Result<Head, Flaw>) -> GustReading
     }
 }
 
-pub fn of_versioned(read: Result<Versioned, Flaw>) -> GustZonedReading
+pub fn of_versioned(read: Result<Versioned<Version>, Flaw>) -> GustZonedReading
     ensures { result ≡ specs.versioned_in (version_told read) (reading_told (head_told read)) }
 {
     let told = of_reading(read.map(|sheet| sheet.head));

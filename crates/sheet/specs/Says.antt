@@ -155,17 +155,20 @@ abbrev pub version_number : Version → ℕ
 version_number One = 1
 version_number Two = 2
 
--- its number, and 0 of a refusal
-abbrev pub version_told : Result Versioned Flaw → ℕ
-version_told (Ok x) = version_number x.version
-version_told (Err f) = 0
+-- its number, whatever versions are, and 0 of a refusal
+abbrev pub version_by : {V : Type 0} → (V → ℕ) → Result (Versioned V) Flaw → ℕ
+version_by number (Ok x) = number x.version
+version_by number (Err f) = 0
+
+abbrev pub version_told : Result (Versioned Version) Flaw → ℕ
+version_told r = version_by version_number r
 
 -- the same without the version
-abbrev pub head_told : Result Versioned Flaw → Result Head Flaw
+abbrev pub head_told : {V : Type 0} → Result (Versioned V) Flaw → Result Head Flaw
 head_told (Ok x) = Ok x.head
 head_told (Err f) = Err f
 
 -- and a reading with it
-abbrev pub with_version : Version → Result Head Flaw → Result Versioned Flaw
+abbrev pub with_version : {V : Type 0} → V → Result Head Flaw → Result (Versioned V) Flaw
 with_version v (Ok h) = Ok (record { version = v; head = h })
 with_version v (Err f) = Err f

@@ -60,10 +60,10 @@ pub struct Head {
     pub paths: usize,
 }
 
-// The same of a sheet of either version, with its own.
+// The same of a sheet of either version, with its own: a `Version`, or a number.
 #[derive(Clone, Copy)]
-pub struct Versioned {
-    pub version: Version,
+pub struct Versioned<V> {
+    pub version: V,
     pub head: Head,
 }
 
@@ -156,7 +156,7 @@ pub fn told(read: Result<Head, Flaw>) -> Head
 }
 
 // The number of the version that is read, and 0 of a refusal.
-pub fn version_told(read: Result<Versioned, Flaw>) -> u64
+pub fn version_told(read: Result<Versioned<Version>, Flaw>) -> u64
     ensures { result ≡ says.version_told read }
 {
     match read {
@@ -180,8 +180,8 @@ pub fn head_bytes(version: u64) -> usize
     if version == 2 { 6 } else { 2 }
 }
 
-// What was read of a sheet of that version, with the version.
-pub fn with_version(version: Version, read: Result<Head, Flaw>) -> Result<Versioned, Flaw>
+// What was read of a sheet of that version, with the version, whatever it is.
+pub fn with_version<V: Copy>(version: V, read: Result<Head, Flaw>) -> Result<Versioned<V>, Flaw>
     ensures { result ≡ says.with_version version read }
 {
     let head = read?;

@@ -1,6 +1,6 @@
 -- What a head with nothing wrong says of its sheet (`head_bodied`, and `body-known` to `body_small`), and what is wrong with a head is told of the
 -- sheet (`head-flawed`). Assumes nothing.
-use Rattle.std.specs.Prelude.{ℕ, ◌-◌, ◌≤◌, ◌≡◌, refl, true, false, not, ◌≢◌, List, eqb, ltb, length, Ok, Err}
+use Rattle.std.specs.Prelude.{ℕ, ◌-◌, ◌≤◌, ◌≡◌, refl, true, false, not, ◌≢◌, List, eqb, ltb, length, Result, Ok, Err}
 use Rattle.std.proofs.Common.{sym, ap, ap₂, ◌∙◌, arith, ltb-false}
 use Rattle.std.proofs.Math.Option.{Option, none, some}
 use Rattle.std.proofs.lemmas.Bool.{eqb-false, not-false}
@@ -74,3 +74,7 @@ module _ {v : ℕ} {l : List ℕ} {kind size s k : ℕ} (b : Bodied v l kind siz
 
     pub body_small : w - 1 ≤ 206
     body_small = omega (arith, e, known-width kind size body-known)
+
+  -- what is told of the paths is told of the sheet
+  pub body_checked : (r : Result Head Flaw) → reading_told r ≡ sheet_told l (paths_against v l) → reading_told r ≡ sheet_told l (check_against v l)
+  body_checked r t = t ∙ ap (λ (o : Option Flaw). sheet_told l (before o (paths_against v l))) (sym b.head)

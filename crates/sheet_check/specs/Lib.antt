@@ -3,6 +3,7 @@ pub mod Says
 pub mod Needs
 pub mod Told
 pub mod Judged
+pub mod Heads
 pub mod Bodied
 pub mod Checking
 pub mod Spoiled

@@ -10,6 +10,7 @@ use Rattle.sheet.specs.Format.{HEAD, length_at, version_at, version_of, kind_at,
 use Rattle.sheet.specs.Says.{flawed, before, settled, lone, ReadTold, tell_read, reading_told, version_told, head_told}
 use Rattle.sheet.specs.declared.Flaw.{Flaw}
 use Rattle.sheet.specs.declared.Flaw.TheVariants as flaw
+use Rattle.sheet.specs.declared.Version.{Version}
 use Rattle.sheet.specs.declared.Versioned.{Versioned}
 use Rattle.sheet_take.specs.Says.{looked}
 
@@ -89,6 +90,6 @@ module _ (v : ℕ) (l : List ℕ) where
   check_against = before head_against paths_against
 
 -- what is told of a sheet of either version: its own, and what the reader of that version tells
-pub record Told (l : List ℕ) (against : Option Flaw) (r : Result Versioned Flaw) : Type 0 where
+pub record Told (l : List ℕ) (against : Option Flaw) (r : Result (Versioned Version) Flaw) : Type 0 where
   pub version_is : version_told r ≡ settled against (version_of l) 0
   pub told : reading_told (head_told r) ≡ sheet_told l against

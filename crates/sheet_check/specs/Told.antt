@@ -4,11 +4,10 @@ use Rattle.std.specs.Prelude.{ℕ, ◌≡◌, refl, List, Result, Ok, Err}
 use Rattle.std.proofs.Common.{sym, ap}
 use Rattle.std.proofs.Math.Option.{Option, none, some}
 use Rattle.std.proofs.lemmas.Bool.{eqb-false}
-use Rattle.sheet.specs.Says.{flaw_number, settled, reads, read_number, read_path, read_place, tell_read, reading_told, version_number, version_told, head_told, with_version}
+use Rattle.sheet.specs.Says.{flaw_number, settled, reads, read_number, read_path, read_place, tell_read, reading_told, version_by, head_told, with_version}
 use Rattle.sheet.specs.Flaws.{flaw_same, flaw_some, no_flaw}
 use Rattle.sheet.specs.declared.Flaw.{Flaw}
 use Rattle.sheet.specs.declared.Head.{Head}
-use Rattle.sheet.specs.declared.Version.{Version}
 use Rattle.sheet_check.specs.Says.{sheet_told}
 
 module _ (l : List ℕ) where
@@ -20,13 +19,14 @@ module _ (l : List ℕ) where
   told_none none e = refl
   told_none (some f) e = absurd (eqb-false (flaw_number f) 0 (flaw_some f) (sym (ap read_number e)))
 
-  pub told_version : (o : Option Flaw) (v : Version) (x : Result Head Flaw) → reading_told x ≡ sheet_told l o → version_told (with_version v x) ≡ settled o (version_number v) 0
-  told_version none v (Ok h) e = refl
-  told_version none v (Err f) e = no_flaw {f = f} (told_flaw none {f = f} e)
-  told_version (some f) v (Ok h) e = no_flaw {f = f} (told_none (some f) {kind = h.mesh.kind} {size = h.mesh.size} {s = h.source} {k = h.paths} e)
-  told_version (some f) v (Err g) e = refl
+  -- of a version of any kind, told by its number
+  pub told_version : (o : Option Flaw) {V : Type 0} (number : V → ℕ) (v : V) (x : Result Head Flaw) → reading_told x ≡ sheet_told l o → version_by number (with_version v x) ≡ settled o (number v) 0
+  told_version none number v (Ok h) e = refl
+  told_version none number v (Err f) e = no_flaw {f = f} (told_flaw none {f = f} e)
+  told_version (some f) number v (Ok h) e = no_flaw {f = f} (told_none (some f) {kind = h.mesh.kind} {size = h.mesh.size} {s = h.source} {k = h.paths} e)
+  told_version (some f) number v (Err g) e = refl
 
 -- the reading is as it was
-pub reading-kept : (v : Version) (x : Result Head Flaw) → head_told (with_version v x) ≡ x
+pub reading-kept : {V : Type 0} (v : V) (x : Result Head Flaw) → head_told (with_version v x) ≡ x
 reading-kept v (Ok h) = refl
 reading-kept v (Err f) = refl

@@ -8,7 +8,6 @@ use Rattle.sheet.specs.Flaws.{flaw_at, flaw_back, flaw_some}
 use Rattle.sheet.specs.Says.{flaw_number, flaw_path, flaw_place, ReadTold, reads, reading_told, version_number, version_told, head_told, with_version}
 use Rattle.sheet_check.specs.Says.{check_against, sheet_told, Told}
 use Rattle.sheet.specs.declared.Flaw.{Flaw}
-use Rattle.sheet.specs.declared.Flaw.{Flaw}
 use Rattle.sheet.specs.declared.Head.{Head}
 use Rattle.sheet.specs.declared.Version.{Version}
 use Rattle.sheet.specs.declared.Version.TheVariants.{One, Two}
@@ -39,11 +38,11 @@ unfolding version_at
 version_back One = refl
 version_back Two = refl
 
-versioned_unique : (a b : Result Versioned Flaw) → version_told a ≡ version_told b → head_told a ≡ head_told b → a ≡ b
+versioned_unique : (a b : Result (Versioned Version) Flaw) → version_told a ≡ version_told b → head_told a ≡ head_told b → a ≡ b
 versioned_unique (Ok x) (Ok y) p q = ap₂ (λ (v : Version) (r : Result Head Flaw). with_version v r) (sym (version_back x.version) ∙ ap version_at p ∙ version_back y.version) q
 versioned_unique (Ok x) (Err g) p q = absurd (let z : ◌≡◌ {A = ℕ} 0 1 = cc in omega arith)
 versioned_unique (Err f) (Ok y) p q = absurd (let z : ◌≡◌ {A = ℕ} 0 1 = cc in omega arith)
 versioned_unique (Err f) (Err g) p q = cc
 
-pub told_unique : (l : List ℕ) (against : Option Flaw) (a b : Result Versioned Flaw) → Told l against a → Told l against b → a ≡ b
+pub told_unique : (l : List ℕ) (against : Option Flaw) (a b : Result (Versioned Version) Flaw) → Told l against a → Told l against b → a ≡ b
 told_unique l against a b p q = versioned_unique a b (p.version_is ∙ sym q.version_is) (reading_unique (head_told a) (head_told b) (p.told ∙ sym q.told))

@@ -11,7 +11,7 @@ ghost use Rattle.sheet_check.specs.Says as says;
 
 pub use body::check_paths;
 pub use heads::{head, version_of};
-use sheet::{Flaw, Head, Versioned};
+use sheet::{Flaw, Head, Version, Versioned};
 
 // Reads one sheet of that version and takes nothing out of it: gives the mesh, the source and how many paths. Refuses with what the reader refuses with, in
 // its order, but 8.
@@ -31,7 +31,7 @@ pub fn check(bytes: &[u8]) -> Result<Head, Flaw>
 }
 
 // The same of both versions: gives the sheet's version too, and refuses with 31 any but 1 and 2.
-pub fn check_either(bytes: &[u8]) -> Result<Versioned, Flaw>
+pub fn check_either(bytes: &[u8]) -> Result<Versioned<Version>, Flaw>
     ensures { says.Told bytes.now (says.check_against (version_of bytes.now) bytes.now) result }
 {
     let version = version_of(bytes);

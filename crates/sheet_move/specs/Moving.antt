@@ -70,11 +70,14 @@ module _ (v : ℕ) (l : List ℕ) (h : Head) (t : reading_told (Ok h) ≡ sheet_
   abbrev k : ℕ
   k = h.paths
 
+  told : reads 0 0 0 m.kind m.size s k ≡ sheet_told l (check_against v l)
+  told = t
+
   sound : check_against v l ≡ none
-  sound = told_none l (check_against v l) {kind = m.kind} {size = m.size} {s = s} {k = k} t
+  sound = told_none l (check_against v l) {kind = m.kind} {size = m.size} {s = s} {k = k} told
 
   plain : reads 0 0 0 m.kind m.size s k ≡ reads 0 0 0 (kind_at l) (size_at l) (source_at l) (count_at l)
-  plain = t ∙ ap (sheet_told l) sound
+  plain = told ∙ ap (sheet_told l) sound
 
   pub move_bodied : Bodied v l m.kind m.size s k
   move_bodied = record {

@@ -38,7 +38,7 @@ fn moved_in(
         targets,
     );
     sheet_take::take_zones(was, bytes, head.paths, zones);
-    sheet_write::put_zoned(to, head, places, counts, zones, out)
+    sheet_write::put_zoned(to.number(), head, places, counts, zones, out)
 }
 
 // The same, in room of its own: as much as any mesh wants.

@@ -1,7 +1,7 @@
 -- The bytes that the first k paths take (`total`): so many are written (`paths-total`), and so many does the loop over counts sum (`Summed`).
 -- Assumes nothing.
 use Rattle.std.specs.Prelude.{ℕ, zero, suc, ◌+◌, ◌*◌, ◌≤◌, ◌<◌, ◌≡◌, refl, List, [], ◌++◌, ◌∷◌, length, get_or, take, drop}
-use Rattle.std.proofs.Common.{sym, ap, ap₂, ◌∙◌, append_assoc, append-nil, add-one, arith, length-append, length-take, get_or-take, get_or-drop}
+use Rattle.std.proofs.Common.{sym, ap, ap₂, ◌∙◌, subst, append_assoc, append-nil, add-one, arith, length-append, length-take, get_or-take, get_or-drop}
 use Rattle.std.proofs.Math.Decide.{ℕ_discrete}
 use Rattle.paths.specs.Fan.{hops}
 use Rattle.paths.specs.Lists.{ahead-length}
@@ -77,7 +77,24 @@ pub summed_starts : {v : ℕ} {counts : List ℕ} {k : ℕ} → Headed k counts 
 unfolding total
 summed_starts h = record { asked = h; within = omega arith; is = refl }
 
--- the next count of the first k
+-- what is summed is small, and so is a count
+pub summed_small : {v : ℕ} {counts : List ℕ} {k n i : ℕ} → Summed v counts k n i → i < k → (n ≤ 52928) × (get_or counts i 0 ≤ 206) × (i < length counts)
+unfolding hops
+summed_small {v} {counts} {k} {n} {i} q l =
+    (omega (arith, q.is, total-most v q.asked i q.within, q.asked.few), q.asked.short i l, omega (arith, q.asked.counted))
+
+pub summed_more : {v : ℕ} {counts : List ℕ} {k n i h head₁ : ℕ} → Summed v counts k n i → i < k → head₁ ≡ head v → h ≡ get_or counts i 0 → Summed v counts k (n + head₁ + h * 8) (i + 1)
+unfolding hops
+summed_more {v} {counts} {k} {n} {i} {h} {head₁} q l f e = record {
+  asked = q.asked;
+  within = omega arith;
+  is = ap₂ (λ (x y : ℕ). n + x + y * 8) f e ∙ ap (λ (x : ℕ). x + head v + get_or counts i 0 * 8) q.is ∙ sym (total-more v counts i) ∙ ap (total v counts) (sym (add-one i));
+}
+
+pub summed_ends : {v : ℕ} {counts : List ℕ} {k n i : ℕ} → Summed v counts k n i → k ≤ i → n ≡ total v counts k
+summed_ends {v} {counts} {k} {n} {i} q l = q.is ∙ ap (total v counts) (omega (arith, q.within))
+
+-- the same of the next of the first k counts, as a slice of them has it
 module _ {v : ℕ} {counts : List ℕ} {k n i : ℕ} (q : Summed v counts k n i) (l : i < length (take k counts)) where
   below : i < k
   below = omega (arith, length-take k counts)
@@ -85,14 +102,11 @@ module _ {v : ℕ} {counts : List ℕ} {k n i : ℕ} (q : Summed v counts k n i)
   same : get_or (take k counts) i 0 ≡ get_or counts i 0
   same = get_or-take k counts i 0 below
 
-  -- what is summed is small, and so is the count
-  pub summed_small : (n ≤ 52928) × (get_or (take k counts) i 0 ≤ 206)
-  unfolding hops
-  summed_small = (omega (arith, q.is, total-most v q.asked i q.within, q.asked.few), omega (arith, same, q.asked.short i below))
+  pub taken_small : (n ≤ 52928) × (get_or (take k counts) i 0 ≤ 206)
+  taken_small = let s = summed_small q below in (s.0, omega (arith, same, s.1))
 
-  pub summed_more : {head₁ : ℕ} → head₁ ≡ head v → Summed v counts k (n + (head₁ + get_or (take k counts) i 0 * 8)) (i + 1)
-  unfolding hops
-  summed_more e = record { asked = q.asked; within = omega (arith, below); is = omega (arith, e, same, q.is, total-more v counts i, ap (total v counts) (add-one i)) }
+  pub taken_more : {head₁ : ℕ} → head₁ ≡ head v → Summed v counts k (n + (head₁ + get_or (take k counts) i 0 * 8)) (i + 1)
+  taken_more {head₁} e = subst (λ (x : ℕ). Summed v counts k x (i + 1)) (omega arith) (summed_more {h = get_or (take k counts) i 0} {head₁ = head₁} q below e same)
 
-pub summed_ends : {v : ℕ} {counts : List ℕ} {k n i : ℕ} → Summed v counts k n i → length (take k counts) ≤ i → n ≡ total v counts k
-summed_ends {v} {counts} {k} q l = q.is ∙ ap (total v counts) (omega (arith, q.within, length-take k counts, q.asked.counted))
+pub taken_ends : {v : ℕ} {counts : List ℕ} {k n i : ℕ} → Summed v counts k n i → length (take k counts) ≤ i → n ≡ total v counts k
+taken_ends {counts = counts} {k = k} q l = summed_ends q (omega (arith, length-take k counts, q.asked.counted))

@@ -1,17 +1,15 @@
 // The paths of a sheet written, piece by piece. Inner: callers meet each `requires`.
+// Stays: the version is a number, as in `sheet::head_bytes`.
 #![tactic(auto)]
 
 ghost use Rattle.std.specs.Prelude.{◌≡◌, ◌+◌, ◌*◌, ◌≤◌, length, get_or};
 ghost use Rattle.std.proofs.lemmas.List.Edits.{sets};
 ghost use Rattle.paths.specs.Lists.{ahead};
 ghost use Rattle.sheet.specs.Format.{head, zone_bytes, relays_bytes, path_bytes, paths_bytes, paths_of};
-ghost use Rattle.sheet.specs.Says.{version_number};
 ghost use Rattle.sheet_put.specs.Needs.{Headed, Paths};
 ghost use Rattle.scan.specs.Scan.{spot_of};
 ghost use Rattle.sheet_put.specs.Stray.{stray_at, stray_in};
 ghost use Rattle.sheet_put.specs.Total.{total};
-
-use sheet::Version;
 
 // Writes n numbers of a list, from the place `from` of it on, 8 bytes each, at the place `at`.
 fn put_relays(places: &[u64], from: usize, n: usize, at: usize, out: &mut [u8])
@@ -31,19 +29,18 @@ fn zone_of(zones: &[u32], i: usize) -> u64
 }
 
 // Writes a zone at the place `at`, where the version has one.
-fn put_zone(version: Version, zone: u64, at: usize, out: &mut [u8])
-    requires { at + head (version_number version) ≤ length out.old + 2 }
-    ensures { out.new ≡ sets out.old at (zone_bytes (version_number version) zone) }
+fn put_zone(version: u64, zone: u64, at: usize, out: &mut [u8])
+    requires { at + head version ≤ length out.old + 2 }
+    ensures { out.new ≡ sets out.old at (zone_bytes version zone) }
 {
-    match version {
-        Version::One => {}
-        Version::Two => octets::put(zone, 4, at, out),
+    if version == 2 {
+        octets::put(zone, 4, at, out);
     }
 }
 
 // Writes the path of h hops whose relays after the source stand in the places from `from` on.
 fn put_path(
-    version: Version,
+    version: u64,
     zone: u64,
     places: &[u64],
     from: usize,
@@ -51,23 +48,17 @@ fn put_path(
     at: usize,
     out: &mut [u8],
 )
-    requires { (from + h ≤ length places.now) × (at + head (version_number version) + h * 8 ≤ length out.old) }
-    ensures { out.new ≡ sets out.old at (path_bytes (version_number version) zone (ahead places.now from h)) }
+    requires { (from + h ≤ length places.now) × (at + head version + h * 8 ≤ length out.old) }
+    ensures { out.new ≡ sets out.old at (path_bytes version zone (ahead places.now from h)) }
 {
     octets::put(h as u64, 2, at, out);
     put_zone(version, zone, at + 2, out);
-    put_relays(
-        places,
-        from,
-        h,
-        at + sheet::head_bytes(version.number()),
-        out,
-    );
+    put_relays(places, from, h, at + sheet::head_bytes(version), out);
 }
 
 // Writes k paths with their zones, of w places each, from the place `at` on.
 pub fn put_paths(
-    version: Version,
+    version: u64,
     w: usize,
     places: &[u64],
     counts: &[u64],
@@ -76,10 +67,10 @@ pub fn put_paths(
     at: usize,
     out: &mut [u8],
 )
-    requires { Paths w k (length places.now) counts.now × (at + total (version_number version) counts.now k ≤ length out.old) }
-    ensures { out.new ≡ sets out.old at (paths_bytes (version_number version) zones.now (paths_of w places.now counts.now k)) }
+    requires { Paths w k (length places.now) counts.now × (at + total version counts.now k ≤ length out.old) }
+    ensures { out.new ≡ sets out.old at (paths_bytes version zones.now (paths_of w places.now counts.now k)) }
 {
-    let head = sheet::head_bytes(version.number());
+    let head = sheet::head_bytes(version);
     let mut to = at;
     for i in 0..k {
         let h = counts[i] as usize;
@@ -89,11 +80,11 @@ pub fn put_paths(
 }
 
 // The bytes that k paths take.
-pub fn bytes_of(version: Version, counts: &[u64], k: usize) -> usize
+pub fn bytes_of(version: u64, counts: &[u64], k: usize) -> usize
     requires { Headed k counts.now }
-    ensures { result ≡ total (version_number version) counts.now k }
+    ensures { result ≡ total version counts.now k }
 {
-    let head = sheet::head_bytes(version.number());
+    let head = sheet::head_bytes(version);
     let mut n: usize = 0;
     for h in &counts[..k] {
         n += head + *h as usize * 8;
@@ -114,11 +105,11 @@ fn first_zone(zones: &[u32], k: usize) -> Option<usize>
 }
 
 // The same where the version has no place for it; nowhere in version 2.
-pub fn stray(version: Version, zones: &[u32], k: usize) -> Option<usize>
-    ensures { spot_of result ≡ stray_in (version_number version) zones.now k }
+pub fn stray(version: u64, zones: &[u32], k: usize) -> Option<usize>
+    ensures { spot_of result ≡ stray_in version zones.now k }
 {
-    match version {
-        Version::One => first_zone(zones, k),
-        Version::Two => None,
+    if version == 2 {
+        return None;
     }
+    first_zone(zones, k)
 }

@@ -5,11 +5,12 @@ use Rattle.std.proofs.Math.Option.{Option}
 use Rattle.scan.specs.Scan.{pick}
 use Rattle.mesh.specs.Says.{short}
 use Rattle.sheet.specs.Format.{version_of, count_at}
-use Rattle.sheet.specs.Says.{flawed, before, settled, reading_told, version_told, head_told}
+use Rattle.sheet.specs.Says.{flawed, before, settled, reading_told, version_number, version_by, head_told}
 use Rattle.sheet.specs.declared.Flaw.{Flaw}
 use Rattle.sheet.specs.declared.Flaw.TheVariants as flaw
 use Rattle.sheet_check.specs.Says.{mesh_at, sheet_targets, sheet_places, sheet_counts, sheet_zones, head_against, paths_against, sheet_told}
 use Rattle.sheet.specs.declared.Head.{Head}
+use Rattle.sheet.specs.declared.Version.{Version}
 use Rattle.sheet.specs.declared.Versioned.{Versioned}
 
 -- 8: too few places or counts, or too few places for targets
@@ -48,7 +49,10 @@ module _ (v : ℕ) (l : List ℕ) where
         pub held : Held zones_against places counts targets places₁ counts₁ targets₁
         pub zoned : zones₁ ≡ settled zones_against (sheet_zones v l ++ drop (length (sheet_zones v l)) zones) zones
 
--- a sheet of either version: its own, and what the reader of that version tells and leaves
-pub record ReadEither (l places counts targets zones : List ℕ) (r : Result Versioned Flaw) (places₁ counts₁ targets₁ zones₁ : List ℕ) : Type 0 where
-  pub version_is : version_told r ≡ settled (zones_against (version_of l) l places counts targets zones) (version_of l) 0
+-- a sheet of either version: its own, told by a number of it, and what the reader of that version tells and leaves
+pub record ReadBy {V : Type 0} (number : V → ℕ) (l places counts targets zones : List ℕ) (r : Result (Versioned V) Flaw) (places₁ counts₁ targets₁ zones₁ : List ℕ) : Type 0 where
+  pub version_is : version_by number r ≡ settled (zones_against (version_of l) l places counts targets zones) (version_of l) 0
   pub read : ReadZoned (version_of l) l places counts targets zones (head_told r) places₁ counts₁ targets₁ zones₁
+
+abbrev pub ReadEither : (l places counts targets zones : List ℕ) (r : Result (Versioned Version) Flaw) (places₁ counts₁ targets₁ zones₁ : List ℕ) → Type 0
+ReadEither l places counts targets zones r places₁ counts₁ targets₁ zones₁ = ReadBy version_number l places counts targets zones r places₁ counts₁ targets₁ zones₁

@@ -4,6 +4,7 @@ use Rattle.std.proofs.Common.{sym, ◌∙◌}
 use Rattle.std.proofs.Math.Option.{Option}
 use Rattle.sheet.specs.Format.{version_of}
 use Rattle.sheet.specs.declared.Flaw.{Flaw}
+use Rattle.sheet.specs.declared.Version.{Version}
 use Rattle.sheet.specs.declared.Versioned.{Versioned}
 use Rattle.sheet_check.specs.Unique.{reading_unique, told_unique}
 use Rattle.sheet.specs.declared.Head.{Head}
@@ -21,7 +22,7 @@ module _ (v : ℕ) (l places counts targets : List ℕ) where
       let h = held_unique p.held q.held in (reading_unique a b (p.told ∙ sym q.told), h.0, h.1, h.2)
 
 module _ (l places counts targets zones : List ℕ) where
-  pub either_unique : (a b : Result Versioned Flaw) (places₁ counts₁ targets₁ zones₁ places₂ counts₂ targets₂ zones₂ : List ℕ)
+  pub either_unique : (a b : Result (Versioned Version) Flaw) (places₁ counts₁ targets₁ zones₁ places₂ counts₂ targets₂ zones₂ : List ℕ)
       → ReadEither l places counts targets zones a places₁ counts₁ targets₁ zones₁ → ReadEither l places counts targets zones b places₂ counts₂ targets₂ zones₂
       → (a ≡ b) × (places₁ ≡ places₂) × (counts₁ ≡ counts₂) × (targets₁ ≡ targets₂) × (zones₁ ≡ zones₂)
   either_unique a b places₁ counts₁ targets₁ zones₁ places₂ counts₂ targets₂ zones₂ p q =

@@ -11,11 +11,10 @@ use Rattle.sheet.specs.Flaws.{flawed-none, before-none}
 use Rattle.sheet.specs.Format.{HEAD, version_of, count_at, zones_at}
 use Rattle.sheet.specs.Lengths.{zones_length}
 use Rattle.sheet.specs.Pieces.{at_front}
-use Rattle.sheet.specs.Says.{flawed, before, settled, reading_told, version_number, version_told, head_told, with_version}
+use Rattle.sheet.specs.Says.{flawed, before, settled, reading_told, version_by, head_told, with_version}
 use Rattle.sheet.specs.declared.Flaw.{Flaw}
 use Rattle.sheet.specs.declared.Flaw.TheVariants as flaw
 use Rattle.sheet.specs.declared.Head.{Head}
-use Rattle.sheet.specs.declared.Version.{Version}
 use Rattle.sheet.specs.declared.Versioned.{Versioned}
 use Rattle.sheet_take.specs.Says.{looked}
 use Rattle.sheet_take.specs.Needs.{Zoned}
@@ -24,7 +23,7 @@ use Rattle.sheet_check.specs.Needs.{Bodied}
 use Rattle.sheet_check.specs.Says.{mesh_at, sheet_zones, head_against, paths_against, sheet_told}
 use Rattle.sheet_check.specs.Told.{told_flaw, told_none, told_version, reading-kept}
 use Rattle.sheet_read.specs.Filling.{untouched}
-use Rattle.sheet_read.specs.Says.{lacking, reads_against, Held, Read, zones_against, ReadZoned, ReadEither}
+use Rattle.sheet_read.specs.Says.{lacking, reads_against, Held, Read, zones_against, ReadZoned, ReadBy}
 
 -- the zones where so much stands against it
 abbrev zones_left : (v : ℕ) (l zones : List ℕ) → Option Flaw → List ℕ
@@ -104,10 +103,12 @@ module _ {v : ℕ} {l : List ℕ} {kind size s k : ℕ} (b : Bodied v l kind siz
 
 -- ---- either version
 
-pub either_read : {l places counts targets zones : List ℕ} (v : Version) {n : ℕ} {x : Result Head Flaw} {r : Result Versioned Flaw} {places₁ counts₁ targets₁ zones₁ : List ℕ} → version_number v ≡ version_of l → n ≡ version_number v
-    → ReadZoned n l places counts targets zones x places₁ counts₁ targets₁ zones₁ → r ≡ with_version v x → ReadEither l places counts targets zones r places₁ counts₁ targets₁ zones₁
-either_read {l} {places} {counts} {targets} {zones} v {n} {x} {r} {places₁} {counts₁} {targets₁} {zones₁} e g q h = record {
-  version_is = ap version_told h ∙ told_version l (zones_against (version_of l) l places counts targets zones) v x p.told ∙ ap (λ (u : ℕ). settled (zones_against (version_of l) l places counts targets zones) u 0) e;
+pub either_read : {V : Type 0} (number : V → ℕ) {l places counts targets zones : List ℕ} (v : V) {n : ℕ} {x : Result Head Flaw} {r : Result (Versioned V) Flaw} {places₁ counts₁ targets₁ zones₁ : List ℕ} → number v ≡ version_of l
+    → n ≡ number v → ReadZoned n l places counts targets zones x places₁ counts₁ targets₁ zones₁ → r ≡ with_version v x → ReadBy number l places counts targets zones r places₁ counts₁ targets₁ zones₁
+either_read number {l} {places} {counts} {targets} {zones} v {n} {x} {r} {places₁} {counts₁} {targets₁} {zones₁} e g q h = record {
+  version_is =
+      ap (version_by number) h ∙ told_version l (zones_against (version_of l) l places counts targets zones) number v x p.told
+      ∙ ap (λ (u : ℕ). settled (zones_against (version_of l) l places counts targets zones) u 0) e;
   read = subst (λ (y : Result Head Flaw). ReadZoned (version_of l) l places counts targets zones y places₁ counts₁ targets₁ zones₁) (sym (ap head_told h ∙ reading-kept v x)) p;
 }
   where

@@ -110,7 +110,7 @@ pub fn read_zoned(
     counts: &mut [u64],
     targets: &mut [u64],
     zones: &mut [u32],
-) -> Result<Versioned, Flaw>
+) -> Result<Versioned<Version>, Flaw>
     ensures { ReadEither bytes.now places.old counts.old targets.old zones.old result places.new counts.new targets.new zones.new }
 {
     let version = sheet_check::version_of(bytes);

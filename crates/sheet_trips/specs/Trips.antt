@@ -151,14 +151,14 @@ written_reads kind size s targets places counts out n out₁ q more others ends 
 
 -- in either, with the version and the zones
 module _ (v : ℕ) (zones : List ℕ) (narrow : Narrow zones) (kind size s : ℕ) (targets places counts out : List ℕ) where
-  pub record SameZoned (more others ends lent : List ℕ) (r : Result Versioned Flaw) (places₁ counts₁ targets₁ zones₁ : List ℕ) : Type 0 where
+  pub record SameZoned (more others ends lent : List ℕ) (r : Result (Versioned Version) Flaw) (places₁ counts₁ targets₁ zones₁ : List ℕ) : Type 0 where
     pub version_is : version_told r ≡ v
     pub same : SameFan kind size s targets places counts more others ends (head_told r) places₁ counts₁ targets₁
     pub zones_are : zones₁ ≡ take (length targets) zones ++ drop (length targets) lent
 
   pub zoned_reads : (n : ℕ) (out₁ : List ℕ) → WroteZoned v kind size s targets places counts zones out (Ok n) out₁
       → (more others ends lent : List ℕ) → length targets * width (mesh_of kind size) ≤ length more → length targets ≤ length others → length targets ≤ length ends → length targets ≤ length lent
-      → (r : Result Versioned Flaw) (places₁ counts₁ targets₁ zones₁ : List ℕ) → ReadEither (take n out₁) more others ends lent r places₁ counts₁ targets₁ zones₁
+      → (r : Result (Versioned Version) Flaw) (places₁ counts₁ targets₁ zones₁ : List ℕ) → ReadEither (take n out₁) more others ends lent r places₁ counts₁ targets₁ zones₁
       → SameZoned more others ends lent r places₁ counts₁ targets₁ zones₁
   zoned_reads n out₁ q more others ends lent a b c d r places₁ counts₁ targets₁ zones₁ u =
       let k = length targets in

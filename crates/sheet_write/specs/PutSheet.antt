@@ -23,9 +23,9 @@ use Rattle.sheet_write.specs.Needs.{Sheeted}
 use Rattle.sheet_write.specs.Says.{bytes_in, lay_against, Laid}
 
 -- a version takes a byte
-pub version_small : (v : Version) → version_number v < 256
-version_small One = omega arith
-version_small Two = omega arith
+pub number_small : (v : Version) → version_number v < 256
+number_small One = omega arith
+number_small Two = omega arith
 
 module _ (v : ℕ) (zones : List ℕ) (kind size s k : ℕ) (places counts out : List ℕ) (a : Sheeted kind size k (length places) counts) where
   abbrev w : ℕ

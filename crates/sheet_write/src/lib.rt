@@ -17,12 +17,12 @@ use mesh::Mesh;
 use sheet::{Flaw, Head, Version};
 
 // Writes the 16 bytes before the paths, which take n bytes.
-fn put_head(version: Version, head: Head, n: usize, out: &mut [u8])
+fn put_head(version: u64, head: Head, n: usize, out: &mut [u8])
     requires { (16 ≤ length out.old) × (n < 65536) }
-    ensures { out.new ≡ sets out.old 0 (head_bytes (version_number version) head.mesh.kind head.mesh.size head.source head.paths n) }
+    ensures { out.new ≡ sets out.old 0 (head_bytes version head.mesh.kind head.mesh.size head.source head.paths n) }
 {
     octets::put(n as u64 + 12, 4, 0, out);
-    octets::put(version.number(), 1, 4, out);
+    octets::put(version, 1, 4, out);
     octets::put(head.mesh.kind, 1, 5, out);
     octets::put(head.mesh.size, 1, 6, out);
     octets::put(head.paths as u64, 1, 7, out);
@@ -31,15 +31,15 @@ fn put_head(version: Version, head: Head, n: usize, out: &mut [u8])
 
 // Writes the sheet of the paths, with their zones where the version has them, where it fits.
 fn lay_sheet(
-    version: Version,
+    version: u64,
     head: Head,
     places: &[u64],
     counts: &[u64],
     zones: &[u32],
     out: &mut [u8],
 ) -> Result<usize, Flaw>
-    requires { Sheeted head.mesh.kind head.mesh.size head.paths (length places.now) counts.now }
-    ensures { says.Laid (version_number version) zones.now head.mesh.kind head.mesh.size head.source head.paths places.now counts.now out.old result out.new }
+    requires { Sheeted head.mesh.kind head.mesh.size head.paths (length places.now) counts.now × (version < 256) }
+    ensures { says.Laid version zones.now head.mesh.kind head.mesh.size head.source head.paths places.now counts.now out.old result out.new }
 {
     let w = mesh::places_in(head.mesh) as usize;
     let n = sheet_put::bytes_of(version, counts, head.paths);
@@ -56,20 +56,21 @@ pub fn put_sheet(head: Head, places: &[u64], counts: &[u64], out: &mut [u8]) -> 
     requires { Sheeted head.mesh.kind head.mesh.size head.paths (length places.now) counts.now }
     ensures { says.Put head.mesh.kind head.mesh.size head.source head.paths places.now counts.now out.old result out.new }
 {
-    lay_sheet(Version::One, head, places, counts, &[], out)
+    lay_sheet(1, head, places, counts, &[], out)
 }
 
 // The same in either version: with 38 where a zone is not 0 and the version has no place for it, and then with 8.
+// Stays: the version is a number, of which the function promises what it writes, whatever it is.
 pub fn put_zoned(
-    version: Version,
+    version: u64,
     head: Head,
     places: &[u64],
     counts: &[u64],
     zones: &[u32],
     out: &mut [u8],
 ) -> Result<usize, Flaw>
-    requires { Sheeted head.mesh.kind head.mesh.size head.paths (length places.now) counts.now }
-    ensures { says.PutIn (version_number version) zones.now head.mesh.kind head.mesh.size head.source head.paths places.now counts.now out.old result out.new }
+    requires { Sheeted head.mesh.kind head.mesh.size head.paths (length places.now) counts.now × (version < 256) }
+    ensures { says.PutIn version zones.now head.mesh.kind head.mesh.size head.source head.paths places.now counts.now out.old result out.new }
 {
     if let Some(i) = sheet_put::stray(version, zones, head.paths) {
         return Err(Flaw::Zone(i));
@@ -146,7 +147,7 @@ fn write_in(
         source,
         paths,
     };
-    put_zoned(version, head, places, counts, zones, out)
+    put_zoned(version.number(), head, places, counts, zones, out)
 }
 
 // Writes the sheet of a fan from the source to the targets at the front of `out`, in version 1, and gives its length. Path i begins at place i * W of the places, where W is

@@ -1,5 +1,4 @@
-use Rattle.std.proofs.Common.{refl, ap, ◌∙◌, arith}
-use Rattle.sheet.specs.Format.{head}
+use Rattle.std.proofs.Common.{refl, arith}
 use Rattle.sheet_put.specs.Putting.{laying_starts, laying_room, laying_more}
 use Rattle.sheet_put.proofs.put_paths.Goals as goal
 
@@ -13,10 +12,10 @@ pub overflow_mul-to : goal.overflow_mul-to
 overflow_mul-to c = omega (arith, (laying_room c.loop-i.invariant c.loop-i-test.true).3)
 
 pub overflow_add-to : goal.overflow_add-to
-overflow_add-to c = omega (arith, laying_room c.loop-i.invariant c.loop-i-test.true, c.head_bytes-head.ensures, ap head c.number.ensures)
+overflow_add-to c = omega (arith, laying_room c.loop-i.invariant c.loop-i-test.true, c.head_bytes-head.ensures)
 
 pub overflow_add-to-in-loop-i : goal.overflow_add-to-in-loop-i
-overflow_add-to-in-loop-i c = omega (arith, (laying_room c.loop-i.invariant c.loop-i-test.true).1, c.head_bytes-head.ensures, ap head c.number.ensures)
+overflow_add-to-in-loop-i c = omega (arith, (laying_room c.loop-i.invariant c.loop-i-test.true).1, c.head_bytes-head.ensures)
 
 pub loop-i-preserved : goal.loop-i-preserved
-loop-i-preserved c = laying_more c.loop-i.invariant c.loop-i-test.true (c.head_bytes-head.ensures ∙ ap head c.number.ensures) refl c.zone_of.ensures c.put_path.ensures
+loop-i-preserved c = laying_more c.loop-i.invariant c.loop-i-test.true c.head_bytes-head.ensures refl c.zone_of.ensures c.put_path.ensures
