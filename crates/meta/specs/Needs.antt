@@ -3,6 +3,7 @@ use Rattle.std.specs.Prelude.{ℕ, ◌*◌, ◌^◌, ◌≤◌, ◌<◌, ◌≢�
 use Rattle.requests.specs.Ways.{Between}
 use Rattle.meta_parts.specs.Meta.{known, metacube}
 use Rattle.meta_parts.specs.Needs.{Fine}
+use Rattle.meta.specs.Says.{hops}
 
 pub fine : {n s t : ℕ} → Between (known n) (metacube n) s t → Fine n s t
 fine b = record { size = b.there-is; source = b.source; target = b.target }
@@ -21,3 +22,8 @@ pub record Part (m c : ℕ) : Type 0 where
 pub record Apart (n u t : ℕ) : Type 0 where
   pub fine : Fine n u t
   pub other : u ≢ t
+
+-- there are more places than hops from s to t
+pub record Room (n s t places : ℕ) : Type 0 where
+  pub fine : Fine n s t
+  pub room : hops n s t < places

@@ -3,6 +3,7 @@ use Rattle.std.specs.Prelude.{ℕ, ◌≤◌, ◌<◌}
 use Rattle.requests.specs.Ways.{Between}
 use Rattle.two_parts.specs.Two.{known, slots, blocks, two}
 use Rattle.two_parts.specs.Needs.{Fine}
+use Rattle.two.specs.Next.{hops}
 
 pub fine : {m s t : ℕ} → Between (known m) (two m) s t → Fine m s t
 fine b = record { order = b.there-is; source = b.source; target = b.target }
@@ -17,3 +18,8 @@ pub record Slots (m p q : ℕ) : Type 0 where
   pub order : m ≤ 5
   pub from : p < slots m
   pub to : q < slots m
+
+-- there are more places than hops from s to t
+pub record Room (m s t places : ℕ) : Type 0 where
+  pub fine : Fine m s t
+  pub room : hops m s t < places
