@@ -1,22 +1,23 @@
 -- What the functions of the way round ask, and the laws by which they keep the promise. Assumes nothing.
-use Rattle.std.specs.Prelude.{ℕ, zero, suc, ◌≤◌, ◌<◌, ◌≡◌, refl, Bool, true, false, ◌≢◌, List, Ok, Err, ◌++◌, ltb, length}
-use Rattle.std.proofs.Common.{sym, ap, ap₂, ◌∙◌, inl, inr, arith, ltb-false, lt-ltb, le-ltb}
+use Rattle.std.specs.Prelude.{ℕ, zero, suc, ◌-◌, ◌≤◌, ◌<◌, ◌≡◌, refl, Bool, true, false, ◌≢◌, List, Result, Ok, Err, ◌++◌, ltb, length}
+use Rattle.std.proofs.Common.{sym, ap, ap₂, ◌∙◌, subst, inl, inr, arith, ltb-false, lt-ltb, le-ltb}
 use Rattle.std.proofs.Math.Option.{Option, none, some}
-use Rattle.scan.specs.Scan.{pick, has}
+use Rattle.scan.specs.Scan.{pick, among, has}
 use Rattle.scan.specs.Laws.{true-false}
 use Rattle.answers.specs.Told.{tell}
 use Rattle.answers.specs.Order.{first, distance_faults, pair_faults, halt_faults, room_faults, append-none, append-fine, append_refused, refuse-none, refused_not}
+use Rattle.answers.specs.Pairs.{pair-source, pair-target, pair-fine}
 use Rattle.answers.specs.declared.Refusal.{Refusal}
-use Rattle.answers.specs.declared.Refusal.TheVariants.{NoDistance, SourceStopped, TargetStopped, NoRoom, NoPath}
+use Rattle.answers.specs.declared.Refusal.TheVariants.{NoDistance, SourceOut, TargetOut, SourceStopped, TargetStopped, NoRoom, NoPath}
 use Rattle.paths.specs.Mesh.{Mesh}
 use Rattle.paths.specs.Ways.{Way, Shortest, distance}
 use Rattle.two_parts.specs.Two as two
 use Rattle.mesh.specs.Kinds.{Kind, CUBE, kind_of, known, planned, mesh_of}
-use Rattle.mesh.specs.Laws.{known_case, planned_case, served-fine}
-use Rattle.mesh.specs.Says.{distance_faults_in}
+use Rattle.mesh.specs.Laws.{known_case, planned_case, served-fine, unserved_refused}
+use Rattle.mesh.specs.Says.{served_faults_in, distance_faults_in}
 use Rattle.mesh.specs.Metric.{far_answered}
 use Rattle.around_search.specs.Room.{label}
-use Rattle.around_search.specs.Search.{Roomy, Sought, Searches, Searched, as_roomy}
+use Rattle.around_search.specs.Search.{Roomy, Starts, Sought, Searches, Searched, as_roomy}
 use Rattle.around_search.specs.Trace.{Traces, Traced}
 use Rattle.around.specs.Says.{ends_against, round_against, round_short, Rounded}
 
@@ -43,7 +44,25 @@ module _ (k n s t : ℕ) {r : Bool} (e : r ≡ planned k n) (p : r ≡ true) whe
     pub far_ends : n ≤ 3 → {relays : ℕ} → relays ≡ (mesh_of k n).relays → first (pair_faults relays s t) ≡ first (distance_faults_in (kind_of k) n s t)
     far_ends small is = ap (λ (x : ℕ). first (pair_faults x s t)) is ∙ far_by false (by_size ∙ le-ltb 3 n small)
 
+    module _ (small : n ≤ 3) {relays : ℕ} (is : relays ≡ (mesh_of k n).relays) where
+      pub far-source : relays ≤ s → some SourceOut ≡ first (distance_faults_in (kind_of k) n s t)
+      far-source h = pair-source relays s t {r = true} {known = true} refl refl h ∙ far_ends small is
+
+      pub far-target : s < relays → relays ≤ t → some (TargetOut 0) ≡ first (distance_faults_in (kind_of k) n s t)
+      far-target h g = pair-target relays s t {r = true} {known = true} refl refl h g ∙ far_ends small is
+
+      pub far-fine : s < relays → t < relays → none ≡ first (distance_faults_in (kind_of k) n s t)
+      far-fine h g = pair-fine relays s t {r = true} {known = true} refl refl h g ∙ far_ends small is
+
+-- of one that is not: 1 or 52
+pub far_unserved : (k n s t : ℕ) {why : Refusal} → some why ≡ first (served_faults_in (kind_of k) n) → some why ≡ first (distance_faults_in (kind_of k) n s t)
+far_unserved k n s t e = unserved_refused (kind_of k) n (distance_faults ((kind_of k).undistanced n) ++ pair_faults (mesh_of k n).relays s t) e
+
 -- ---- the ends
+
+-- a distance is refused: so is a way round
+pub far_refused : (K : Kind) (n s t : ℕ) (stopped : List ℕ) {why : Refusal} → some why ≡ first (distance_faults_in K n s t) → some why ≡ first (ends_against K n s t stopped)
+far_refused K n s t stopped e = sym (append_refused (distance_faults_in K n s t) (halt_faults (has stopped s) (has stopped t)) (sym e))
 
 -- where nothing stands against a distance, 43 and 44 decide
 module _ (k n s t : ℕ) (stopped : List ℕ) (fine : none ≡ first (distance_faults_in (kind_of k) n s t)) where
@@ -61,6 +80,11 @@ module _ (k n s t : ℕ) (stopped : List ℕ) (fine : none ≡ first (distance_f
   pub none-stopped : has stopped s ≡ false → has stopped t ≡ false → none ≡ first (ends_against (kind_of k) n s t stopped)
   none-stopped p q = rest p q
 
+-- what code finds in the whole list
+pub as_has : (l : List ℕ) (x : ℕ) {r b : Bool} → r ≡ among l 0 (length l) x → r ≡ b → has l x ≡ b
+unfolding has
+as_has l x e z = sym e ∙ z
+
 -- ---- with room
 
 module _ (k n s t : ℕ) (stopped : List ℕ) where
@@ -69,6 +93,9 @@ module _ (k n s t : ℕ) (stopped : List ℕ) where
 
   pub round-short : {room : Bool} → none ≡ first (ends_against (kind_of k) n s t stopped) → room ≡ true → some NoRoom ≡ round_against (kind_of k) n s t stopped room
   round-short {room} e z = ap (λ (b : Bool). first (room_faults b)) (sym z) ∙ sym (append-fine (ends_against (kind_of k) n s t stopped) (room_faults room) (sym e))
+
+  pub round-fine : {room : Bool} → none ≡ first (ends_against (kind_of k) n s t stopped) → room ≡ false → none ≡ round_against (kind_of k) n s t stopped room
+  round-fine {room} e z = ap (λ (b : Bool). first (room_faults b)) (sym z) ∙ sym (append-fine (ends_against (kind_of k) n s t stopped) (room_faults room) (sym e))
 
 module _ (m : Mesh) (room out : ℕ) where
   pub short-room : room < m.relays → round_short m room out ≡ true
@@ -80,6 +107,13 @@ module _ (m : Mesh) (room out : ℕ) where
       go : (b : Bool) → pick b true true ≡ true
       go true = refl
       go false = refl
+
+  pub long_both : m.relays ≤ room → m.relays ≤ out → round_short m room out ≡ false
+  long_both h g = ap₂ (λ (a b : Bool). pick a true b) (le-ltb room m.relays h) (le-ltb out m.relays g)
+
+-- a number that is not 0
+pub as_less : {r : ℕ} → (r ≡ 0 → ⊥) → r ≡ suc (r - 1)
+as_less h = omega (arith, h)
 
 -- ---- a sound request
 
@@ -127,6 +161,9 @@ module _ {k n s t : ℕ} {stopped : List ℕ} {places out links : ℕ} (S : Soun
   pub ground : Roomy k n links places
   ground = record { there = S.size; linked = e; enough = L.roomy; small = omega (arith, S.small) }
 
+  pub can_start : {relays : ℕ} → relays ≡ (mesh_of k n).relays → Starts relays t places
+  can_start z = record { relay = omega (arith, S.target); enough = omega (arith, L.roomy); small = omega (arith, S.small) }
+
   pub can_search : {room : List ℕ} → length room ≡ places → Sought k n stopped t room 0 0 1 → Searches k n links s stopped t room
   can_search z R = record { ground = as_roomy ground z; relay = S.source; running = S.runs; begun = R }
 
@@ -170,3 +207,7 @@ refusal {o} {why} m s t room out e = record {
   where
     inner : {x y : Refusal} → some x ≡ some y → x ≡ y
     inner e = cc
+
+pub as_round : {o o' : Option Refusal} {m : Mesh} {s t : ℕ} {room out room' out' : List ℕ} {r : Result ℕ Refusal} → o ≡ o' → Rounded o m s t room out r room' out'
+    → Rounded o' m s t room out r room' out'
+as_round {o} {o'} {m} {s} {t} {room} {out} {room'} {out'} {r} e R = subst (λ (x : Option Refusal). Rounded x m s t room out r room' out') e R

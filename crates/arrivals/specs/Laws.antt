@@ -1,5 +1,5 @@
--- The rules case by case (`arrival-first`, `arrival-seen`, `arrival-marked`, `arrival-further`, `arrival_old`), the number that is told
--- (`number-told`), and that a refusal leaves the record as it was (`refused_leaves`). Assumes nothing.
+-- The rules case by case (`arrival-first`, `arrival-seen`, `arrival-marked`, `arrival-further`, `arrival_old`), the wrapping difference
+-- (`minus_is`), the number that is told (`number-told`), and that a refusal leaves the record as it was (`refused_leaves`). Assumes nothing.
 use Rattle.std.specs.Prelude.{◌≡◌, ℕ, zero, suc, ◌+◌, ◌%◌, ◌<◌, ◌≤◌, Bool, true, false, Result, Ok, Err, ◌==◌, ◌≢◌, nat_le, refl}
 use Rattle.std.proofs.Common.{sym, ltb-true, leb-true, lt-ltb, le-ltb, le-leb, eq-eqb, ne_eqb}
 use native.Mathlib.Omega.{arith}
@@ -14,6 +14,11 @@ use Rattle.arrivals.specs.declared.Dropped.TheVariants as dropped
 use Rattle.arrivals.specs.declared.Record.{Record}
 
 -- ---- numbers that wrap
+
+-- the number that y added to wraps back to x
+pub minus_is : {x y d : ℕ} → d < 65536 → y < 65536 → (d + y) % 65536 ≡ x → d ≡ minus x y
+unfolding minus
+minus_is p q e = omega arith
 
 -- ahead and behind add up to nothing
 pub unlike : (n x : ℕ) → n < 65536 → x < 65536 → (minus x n + minus n x) % 65536 ≡ 0

@@ -4,7 +4,7 @@
 ghost use Rattle.std.specs.Prelude.{◌≡◌, ◌*◌, ◌%◌, ◌^◌, ◌<◌, ◌≤◌};
 ghost use Rattle.arrivals.specs.Says as specs;
 
-use answers::Reason;
+pub use answers::Reason;
 
 // The newest number, and marks: bit e says whether the number e before the newest was passed. No marks, no frame yet: a fresh record.
 #[repr(C)]

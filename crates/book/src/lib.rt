@@ -5,7 +5,7 @@ ghost use Rattle.std.specs.Prelude.{◌≡◌};
 ghost use Rattle.book.specs.declared.NotAdded.TheVariants as NotAdded;
 ghost use Rattle.book.specs.Told as told;
 
-use answers::Reason;
+pub use answers::Reason;
 use sheet::Flaw;
 
 // How many bytes are in use, removed sheets counted, and how many places of the index. An empty book is 0, 0, over any slices.

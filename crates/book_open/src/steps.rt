@@ -40,6 +40,7 @@ pub fn piece(rest: &[u8], at: usize) -> Option<usize>
 }
 
 // Puts the place of the piece that the bytes begin with into the first n places of the room, where it is live.
+#[inline(never)]
 pub fn enter(
     rest: &[u8],
     at: usize,

@@ -35,12 +35,21 @@ filling_more {A} {column} {was} {out} {i} v f h = record {
   long = simp length-set f.long;
 }
 
--- one value more of a list that is copied
+-- ---- a copied column
+
+-- one value more
 pub copied_next : {A : Type 0} (from : List A) (v : A) {was out : List A} {i : ℕ} → v ≡ get_or from i v → Filling (take i from) i was out → i < length was → i < length from
     → Filling (take (i + 1) from) (i + 1) was (set out i v)
 copied_next from v {was} {out} {i} e f h l =
     let more : take (i + 1) from ≡ take i from ++ (v ∷ []) = rw add-one (take-suc from i v l ∙ ap (λ x. take i from ++ (x ∷ [])) (sym e)) in
     rw more (filling_more v f h)
+
+-- the same of numbers
+pub copied_more : (from : List ℕ) {was out : List ℕ} {i : ℕ} → Filling (take i from) i was out → i < length was → i < length from
+    → Filling (take (i + 1) from) (i + 1) was (set out i (get_or from i 0))
+copied_more from {was} {out} {i} f h l =
+    let more : take (i + 1) from ≡ take i from ++ (get_or from i 0 ∷ []) = rw add-one (take-suc from i 0 l) in
+    rw more (filling_more (get_or from i 0) f h)
 
 -- ---- a column of marks
 
@@ -118,16 +127,18 @@ pub cut-told : (w : ℕ) (places : List ℕ) (fails : Failed) (i p : ℕ) {u v :
 unfolding severs
 cut-told w places fails i p d e f g = ap₂ (cut fails.cuts) (sym d) (sym e) ∙ sym f ∙ g
 
--- the first pair of a list of cuts, and those after it; nothing where no pair is left
-cut-next : (l : List ℕ) (u v : ℕ) → 2 ≤ length l → cut l u v ≡ (pair (get_or l 0 0) (get_or l 1 0) u v || cut (drop 2 l) u v)
+-- the cuts from place j on: the pair there, and those after it; nothing where no pair is left
+pub cut-next : (cuts : List ℕ) (u v j : ℕ) → j + 2 ≤ length cuts → cut (drop j cuts) u v ≡ (pair (get_or cuts j 0) (get_or cuts (j + 1) 0) u v || cut (drop (j + 2) cuts) u v)
 unfolding cut
-cut-next [] u v h = absurd (omega arith)
-cut-next (a ∷ []) u v h = absurd (omega arith)
-cut-next (a ∷ b ∷ l) u v h = refl
+cut-next cuts u v j h =
+    let one : suc j ≡ j + 1 = omega arith in
+    let two : suc (j + 1) ≡ j + 2 = omega arith in
+    let rest = ap (λ (i : ℕ). drop i cuts) one ∙ drop-cons cuts (j + 1) 0 (omega arith) ∙ ap (λ (i : ℕ). get_or cuts (j + 1) 0 ∷ drop i cuts) two in
+    ap (λ (l : List ℕ). cut l u v) (drop-cons cuts j 0 (omega arith) ∙ ap (λ (l : List ℕ). get_or cuts j 0 ∷ l) rest)
 
 pub cut-here : (l : List ℕ) (u v : ℕ) {b : Bool} → 2 ≤ length l → b ≡ pair (get_or l 0 0) (get_or l 1 0) u v → b ≡ true → true ≡ cut l u v
 cut-here l u v {b} h e t =
-    sym (cut-next l u v h ∙ ap (λ (x : Bool). x || cut (drop 2 l) u v) (sym e) ∙ first-true b (cut (drop 2 l) u v) t)
+    sym (cut-next l u v 0 h ∙ ap (λ (x : Bool). x || cut (drop 2 l) u v) (sym e) ∙ first-true b (cut (drop 2 l) u v) t)
 
 pub cut-later : (l : List ℕ) (u v : ℕ) {b : Bool} → 2 ≤ length l → b ≡ pair (get_or l 0 0) (get_or l 1 0) u v → b ≡ false
     → cut (take (length l - 2) (drop 2 l)) u v ≡ cut l u v
@@ -135,13 +146,16 @@ cut-later l u v h e f =
     let all : length l - 2 ≡ length (drop 2 l) = sym (length-drop 2 l) in
     ap (λ (n : ℕ). cut (take n (drop 2 l)) u v) all
     ∙ ap (λ (r : List ℕ). cut r u v) (take-length (drop 2 l))
-    ∙ sym (cut-next l u v h ∙ ap (λ (x : Bool). x || cut (drop 2 l) u v) (sym e ∙ f))
+    ∙ sym (cut-next l u v 0 h ∙ ap (λ (x : Bool). x || cut (drop 2 l) u v) (sym e ∙ f))
 
-pub cut-none : (l : List ℕ) (u v : ℕ) → length l < 2 → false ≡ cut l u v
+pub cut-none : (cuts : List ℕ) (u v j : ℕ) → length cuts ≤ j + 1 → cut (drop j cuts) u v ≡ false
 unfolding cut
-cut-none [] u v h = refl
-cut-none (a ∷ []) u v h = refl
-cut-none (a ∷ b ∷ l) u v h = absurd (omega arith)
+cut-none cuts u v j h = go (drop j cuts) (omega (arith, length-drop j cuts))
+  where
+    go : (l : List ℕ) → length l ≤ 1 → cut l u v ≡ false
+    go [] g = refl
+    go (a ∷ []) g = refl
+    go (a ∷ b ∷ l) g = absurd (omega arith)
 
 module _ (w : ℕ) (places counts stopped cuts : List ℕ) (i : ℕ) {x : Bool} (e : x ≡ any (stops w places (failed stopped []) i) 0 (hops counts i + 1)) where
   pub stopped-told : x ≡ true → false ≡ whole w places counts (failed stopped cuts) i

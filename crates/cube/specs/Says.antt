@@ -4,6 +4,7 @@ use Rattle.std.proofs.Math.Option.{Option}
 use Rattle.answers.specs.Order.{Fault, first, size_faults, pair_faults, room_faults}
 use Rattle.answers.specs.Told.{Told, tell, leaves}
 use Rattle.answers.specs.declared.Refusal.{Refusal}
+use Rattle.requests.specs.Facts as facts
 use Rattle.cube.specs.Cube.{known, linked}
 use Rattle.cube.specs.Route.{next, hops, route}
 
@@ -24,9 +25,9 @@ pair_against n s t room = first (pair_faults_in n s t room)
 abbrev pub route_against : (n s t places : ℕ) → Option Refusal
 route_against n s t places = pair_against n s t (leb places (hops s t))
 
--- a fact of a size
+-- a fact of a size, as `requests` tells it
 abbrev pub fact_told : (n fact : ℕ) → Told ℕ
-fact_told n fact = tell (size_against n) 0 fact
+fact_told n fact = facts.fact_told (known n) fact
 
 abbrev pub linked_told : (n s t : ℕ) → Told Bool
 linked_told n s t = tell (pair_against n s t false) false (linked s t)

@@ -12,7 +12,8 @@ ghost use Rattle.cube.specs.Sizes.{short};
 
 use answers::Refusal;
 pub use plain::{next_hop, route};
-use requests::{Facts, Hops, Ways};
+pub use requests::Facts;
+use requests::{Hops, Ways};
 
 // How many dimensions a cube has. Every number can be asked; what is not from 1 to 32 is refused by each routine.
 #[derive(Clone, Copy)]

@@ -8,7 +8,8 @@ ghost use Rattle.mesh.specs.Kinds.{kind_of};
 ghost use Rattle.dimacs.specs.declared.Fault.TheVariants.{Refused};
 ghost use Rattle.dimacs.specs.Says.{export_faults_in, fault_number, fault_place};
 
-use answers::{Reason, Refusal};
+pub use answers::Reason;
+use answers::Refusal;
 use mesh::Mesh;
 
 // The most relays of a mesh that is exported: a cube of 11 dimensions has as many, and a two-level mesh of order 3.

@@ -1,13 +1,14 @@
 -- Laws of what is judged: want of room is told last, so where something else stands against it room does not matter (`asked_alike`), and where nothing
 -- does there is room for its paths (`asked_passed`); what is told, as code goes through it (`told_refused`, `told-short`, `told_granted`). A bundle's
 -- room and faults are those that the mesh tells (`bundle_cramped`, `bundle_against_lem`). Assumes nothing.
-use Rattle.std.specs.Prelude.{ℕ, zero, suc, ◌*◌, ◌≤◌, ◌≡◌, refl, Bool, true, false, List, ◌∷◌, ◌++◌, ltb, length, take, replicate}
+use Rattle.std.specs.Prelude.{ℕ, zero, suc, ◌*◌, ◌≤◌, ◌≡◌, refl, Bool, true, false, List, ◌∷◌, ◌++◌, Result, Ok, ⊤, ltb, length, take, replicate}
 use Rattle.std.proofs.Common.{sym, ap, ◌∙◌, arith, ltb-false}
 use Rattle.std.proofs.Math.Option.{Option, none, some}
 use Rattle.std.proofs.lemmas.List.{length-replicate}
 use Rattle.scan.specs.Scan.{pick}
 use Rattle.answers.specs.Order.{Fault, first, refuse, before, refuse-none, append-none, handed, asked_next, room_faults}
-use Rattle.answers.specs.Pairs.{room-last}
+use Rattle.answers.specs.Pairs.{room-last, room_granted}
+use Rattle.answers.specs.Told.{against}
 use Rattle.answers.specs.declared.Refusal.{Refusal}
 use Rattle.answers.specs.declared.Refusal.TheVariants.{NoRoom}
 use Rattle.paths.specs.Mesh.{Mesh, width}
@@ -87,6 +88,14 @@ module _ (q : Asked) (places counts : List ℕ) (lacking : Bool) where
 
     pub passed : wanted ≡ false → Passed q (length places) (length counts) lacking
     passed w = asked_passed q places counts lacking (sym (by_room w))
+
+  -- the same by what was checked, and by a flag, which is what code has of the want of room
+  module _ {r : Result ⊤ Refusal} (e : against r ≡ first q.faults) (f : r ≡ Ok tt) {short flag : Bool} (s : short ≡ cramped q places counts) (w : flag ≡ pick lacking true short) where
+    flagged : flag ≡ pick lacking true (cramped q places counts)
+    flagged = w ∙ ap (pick lacking true) s
+
+    granted : flag ≡ false → none ≡ asked_against q places counts lacking
+    granted t = room_granted q.faults (pick lacking true (cramped q places counts)) e f flagged t
 
 -- ---- a bundle
 

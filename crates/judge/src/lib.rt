@@ -9,6 +9,7 @@ ghost use Rattle.std.specs.Prelude.{◌≡◌, false};
 ghost use Rattle.mesh.specs.Kinds.{kind_of};
 ghost use Rattle.judge.specs.Says as specs;
 
+pub use answers::Reason;
 use answers::Refusal;
 pub use bundles::{judge_bundle, judge_bundle_with};
 use judge_rows::{Mode, Rules};

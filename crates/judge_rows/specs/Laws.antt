@@ -63,6 +63,23 @@ module _ (r : Rules) {w : ℕ} (places counts : List ℕ) (i p : ℕ) {x : ℕ} 
     pub seen-before : {q : Bool} → c ≡ false → q ≡ any (on w places counts x) 0 i → q ≡ seen r places counts i p
     seen-before n z = z ∙ ap earlier (sym n) ∙ not-on_this
 
+-- where two paths may meet, in each mode
+module _ (r : code.Rules) (h p : ℕ) where
+  pub excepted-start : p ≡ 0 → true ≡ (rules_of r).excepted h p
+  excepted-start z = go r.mode
+    where
+      go : (m : code-mode.Mode) → true ≡ (rules_in m (mesh_of r.mesh.kind r.mesh.size)).excepted h p
+      go mode.Fan = sym (eq-eqb p 0 z)
+      go mode.Bundle = ap (λ (b : Bool). pick b true (eqb p h)) (sym (eq-eqb p 0 z))
+
+  pub excepted-fan : r.mode ≡ mode.Fan → p ≢ 0 → false ≡ (rules_of r).excepted h p
+  excepted-fan e ne = sym (ne_eqb p 0 ne) ∙ ap (λ (m : code-mode.Mode). (rules_in m (mesh_of r.mesh.kind r.mesh.size)).excepted h p) (sym e)
+
+  pub excepted_bundle : {b : Bool} → r.mode ≡ mode.Bundle → p ≢ 0 → b ≡ eqb p h → b ≡ (rules_of r).excepted h p
+  excepted_bundle e ne f =
+      f ∙ ap (λ (b : Bool). pick b true (eqb p h)) (sym (ne_eqb p 0 ne))
+      ∙ ap (λ (m : code-mode.Mode). (rules_in m (mesh_of r.mesh.kind r.mesh.size)).excepted h p) (sym e)
+
 module _ (r : code.Rules) (counts : List ℕ) (i p : ℕ) where
   abbrev mesh : Mesh
   mesh = mesh_of r.mesh.kind r.mesh.size
@@ -74,6 +91,21 @@ module _ (r : code.Rules) (counts : List ℕ) (i p : ℕ) where
 
   pub twinned-fan : r.mode ≡ mode.Fan → false ≡ twinned (rules_of r) counts i p
   twinned-fan e = sym (false-any (λ j. false) 0 i (λ j l g. refl)) ∙ in_mode e
+
+  -- of a bundle, at another place than 1, or on a longer path than the bare link
+  module _ (e : r.mode ≡ mode.Bundle) where
+    pub twinned_elsewhere : p ≢ 1 → false ≡ twinned (rules_of r) counts i p
+    twinned_elsewhere ne =
+        sym (false-any (λ j. (rules_in mode.Bundle mesh).twin (hops counts i) p (hops counts j)) 0 i
+        (λ j l g. ap (λ (b : Bool). pick b (pick (eqb (hops counts i) 1) (eqb (hops counts j) 1) false) false) (ne_eqb p 1 ne)))
+        ∙ in_mode e
+
+    pub twinned-longer : hops counts i ≢ 1 → false ≡ twinned (rules_of r) counts i p
+    twinned-longer ne = sym (false-any (λ j. (rules_in mode.Bundle mesh).twin (hops counts i) p (hops counts j)) 0 i (λ j l g. go (eqb p 1) j)) ∙ in_mode e
+      where
+        go : (b : Bool) (j : ℕ) → pick b (pick (eqb (hops counts i) 1) (eqb (hops counts j) 1) false) false ≡ false
+        go true j = ap (λ (b : Bool). pick b (eqb (hops counts j) 1) false) (ne_eqb (hops counts i) 1 ne)
+        go false j = refl
 
   -- of a bundle, as code has it: whether the place is 1, and the path of h hops is the bare link
   module _ {h : ℕ} (e : r.mode ≡ mode.Bundle) (f : h ≡ hops counts i) where

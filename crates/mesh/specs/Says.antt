@@ -8,6 +8,7 @@ use Rattle.answers.specs.declared.Refusal.{Refusal}
 use Rattle.paths.specs.Mesh.{Mesh, width}
 use Rattle.paths.specs.Ways.{distance}
 use Rattle.paths.specs.Bundles.{longer}
+use Rattle.requests.specs.Facts as facts
 use Rattle.mesh.specs.Kinds.{Kind}
 
 -- ---- what may stand against a size, a pair, a request: the faults of each routine, in its order
@@ -65,9 +66,9 @@ bundle_short m = short (longer m) m.links
 
 -- ---- what is told
 
--- a fact of a size
+-- a fact of a size, as `requests` tells it
 abbrev pub fact_told : (k : Kind) (n : ℕ) (fact : ℕ) → Told ℕ
-fact_told k n fact = tell (size_against k n) 0 fact
+fact_told k n fact = facts.fact_told (k.known n) fact
 
 abbrev pub linked_told : (k : Kind) (n s t : ℕ) → Told Bool
 linked_told k n s t = tell (pair_against k n s t false) false ((k.mesh n).linked s t)

@@ -18,7 +18,7 @@ use cube::Size;
 use meta::Metacube;
 pub use pairs::{distance, joined, linked, near, next_hop, route};
 pub use requested::{bundle_short, ends, plan_request, request, short, unplanned};
-use requests::Facts;
+pub use requests::Facts;
 use two::Order;
 
 // A kind, 1 the plain cube, 2 the two-level mesh and 3 the metacube, and a size: the dimensions of a cube, the order of a two-level mesh, of a metacube k·64 + m. Every

@@ -11,7 +11,8 @@ ghost use Rattle.meta.specs.Says as says;
 
 use answers::Refusal;
 pub use meta_parts::Metacube;
-use requests::{Facts, Ways};
+pub use requests::Facts;
+use requests::Ways;
 use ways::Walked;
 
 // What stands against a source and a target, the first of 1, 2, 5: of relay 32 as the source in size 66 it is 2.

@@ -6,4 +6,5 @@ mod links;
 mod sizes;
 
 pub use links::{class_of, joined, near};
+pub use requests::Facts;
 pub use sizes::{Metacube, class_bits, links_in, longest_in, part_bits, relays_in, span_in};

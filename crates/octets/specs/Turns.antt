@@ -1,5 +1,5 @@
 -- A number read byte by byte (`Reading`); bytes written one after another, the lowest first (`put-step`, `put-none`); and what the library's functions on eight bytes
--- write and read (`big-bytes`, `number_eight`). Assumes nothing.
+-- write and read (`big-bytes`, `number_eight`), and the same byte by byte (`each_put`, `each_read`). Assumes nothing.
 use Rattle.std.specs.Prelude.{ℕ, zero, suc, ◌+◌, ◌-◌, ◌*◌, ◌/◌, ◌%◌, ◌^◌, ◌≤◌, ◌<◌, ◌≡◌, refl, List, [], ◌∷◌, ◌++◌, length, get_or, set, take, drop}
 use Rattle.std.proofs.Common.{sym, ap, ap₂, ◌∙◌, subst, append_assoc, pow-suc, add-one, arith}
 use Rattle.std.specs.Int.{w64, byte_at, bytes_high_first, from_be_bytes}
@@ -102,3 +102,37 @@ pub number_eight : (l : List ℕ) (at : ℕ)
     ≡ number l at 8
 unfolding number
 number_eight l at = let first : get_or l (at + 0) 0 ≡ get_or l at 0 = ap (λ (i : ℕ). get_or l i 0) (omega arith) in omega (arith, first)
+
+-- ---- eight bytes, each by itself
+
+-- one byte more, behind those that are written
+behind : (w v at : ℕ) (l : List ℕ) {m : List ℕ} → m ≡ sets l at (big w (v / 256)) → set m (at + w) (v % 256) ≡ sets l at (big (w + 1) v)
+behind w v at l e = ap (λ (m : List ℕ). set m (at + w) (v % 256)) e ∙ put-more (w + 1) w v at l refl
+
+-- the numbers whose lowest bytes are the bytes of v
+abbrev pub over : (n v : ℕ) → ℕ
+over zero v = v
+over (suc n) v = over n v / 256
+
+pub each_put : (v at : ℕ) (l : List ℕ)
+    → set
+    (set
+    (set
+    (set (set (set (set (set l at (over 7 v % 256)) (at + 1) (over 6 v % 256)) (at + 2) (over 5 v % 256)) (at + 3) (over 4 v % 256)) (at + 4) (over 3 v % 256))
+    (at + 5)
+    (over 2 v % 256))
+    (at + 6)
+    (over 1 v % 256))
+    (at + 7)
+    (v % 256)
+    ≡ sets l at (big 8 v)
+unfolding big
+each_put v at l =
+    behind 7 v at l
+    (behind 6 (over 1 v) at l (behind 5 (over 2 v) at l (behind 4 (over 3 v) at l (behind 3 (over 4 v) at l (behind 2 (over 5 v) at l (behind 1 (over 6 v) at l refl))))))
+
+pub each_read : (l : List ℕ) (at : ℕ)
+    → ((((((get_or l at 0 * 256 + get_or l (at + 1) 0) * 256 + get_or l (at + 2) 0) * 256 + get_or l (at + 3) 0) * 256 + get_or l (at + 4) 0) * 256 + get_or l (at + 5) 0) * 256 + get_or l (at + 6) 0) * 256 + get_or l (at + 7) 0
+    ≡ number l at 8
+unfolding number
+each_read l at = let first : get_or l (at + 0) 0 ≡ get_or l at 0 = ap (λ (i : ℕ). get_or l i 0) (omega arith) in omega (arith, first)

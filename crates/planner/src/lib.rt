@@ -12,14 +12,14 @@ use answers::Refusal;
 use mesh::Mesh;
 
 // A fan for a request that was checked, and has room. Inner: who calls it has looked for 1, 52, 2 to 8.
-// Stays: the kind is compared, and the mesh not taken apart by its shape, since a mesh that is planned is a cube or else two-level, and a `match` would have two arms that are never reached.
+// Stays: the kind is compared, a branch for each kind that has a planner, and the mesh not taken apart by its shape: of a mesh that is planned the end is never reached.
 pub fn lay(mesh: Mesh, source: u64, targets: &[u64], places: &mut [u64], counts: &mut [u64])
     requires { Layable mesh.kind mesh.size source targets.now (length places.old) (length counts.old) }
     ensures { Planned none (mesh_of mesh.kind mesh.size) source targets.now places.old counts.old (Ok tt) places.new counts.new }
 {
     if mesh.kind == Mesh::CUBE {
         cube_split::fan_through(mesh.size as u32, source, 0, targets, places, counts);
-    } else {
+    } else if mesh.kind == Mesh::TWO {
         let w = mesh::places_in(mesh) as usize;
         two_plan::lay(mesh.size as u32, source, targets, w, places, counts);
     }

@@ -282,3 +282,9 @@ unreadable kind size s l out ne p =
     refusal kind size s (targets_in l) out (λ z. code_some Unreadable (o ∙ z)) (p ∙ o)
 
 -- ---- how many targets are looked at
+
+pub few-all : (n : ℕ) → n < 33 → n ≡ few n
+few-all n h = ap (λ (b : Bool). pick b n 33) (sym (lt-ltb n 33 h))
+
+pub few-cut : (n : ℕ) → 33 ≤ n → 33 ≡ few n
+few-cut n h = ap (λ (b : Bool). pick b n 33) (sym (le-ltb n 33 h))

@@ -1,6 +1,6 @@
--- Why survivors keeps its promise: what it is to give where the judge finds nothing (`ready`, `survived`) and where not (`found_survived`,
--- `refused_survived`), of a fan or a bundle. Assumes nothing.
-use Rattle.std.specs.Prelude.{ℕ, ◌≤◌, ◌≡◌, refl, Bool, true, false, ◌≢◌, List, Ok, Err, ltb, length}
+-- Why survivors keeps its promise: what it is to give where the judge finds nothing (`ready`, `survived`) and where not (`fault_survived`,
+-- `found_survived`, `refused_survived`), of a fan or a bundle. Assumes nothing.
+use Rattle.std.specs.Prelude.{ℕ, ◌≤◌, ◌≡◌, refl, Bool, true, false, ◌≢◌, List, Result, Ok, Err, ⊤, ltb, length}
 use Rattle.std.proofs.Common.{sym, ap, ap₂, ◌∙◌, subst, arith, ltb-false}
 use Rattle.std.proofs.Math.Option.{Option, none, some}
 use Rattle.std.proofs.lemmas.List.{length-replicate}
@@ -18,7 +18,9 @@ use Rattle.mesh.specs.Requests.{ends-fine, neither_wanting}
 use Rattle.judge.specs.Says.{ruling, number_of, rule, verdict_told, fault_told, Asked, bundle_asked, asked_against, asked_finding, bundle_told}
 use Rattle.judge.specs.Asked.{Passed, asked_alike, asked_passed, passed_lent}
 use Rattle.judge.specs.Numbers.{findings_numbered, fault_number, rule_clean}
+use Rattle.judge.specs.declared.Finding as code
 use Rattle.judge.specs.declared.Fault.{Fault}
+use Rattle.judge.specs.declared.Fault.TheVariants as fault
 use Rattle.columns.specs.Says.{bundle_paths, Columns}
 use Rattle.columns.specs.Needs.{Filled}
 use Rattle.survivors.specs.Tally.{Tally, tallied, verdict_of, count_of}
@@ -64,6 +66,14 @@ module _ (wanting : Bool) (q : Asked) (places counts : List ℕ) (fails : Failed
 
   pub fault_survived : (f : Fault) → fault_told f ≡ rule against first → Survived wanting q places counts fails ends hops wholes (Err f) ends hops wholes
   fault_survived f e = not_survived (Err f) refl (fault_number f) e
+
+  pub found_survived : {f : code.Finding} {v : Result ⊤ Fault} → v ≡ Err (fault.Found f) → verdict_told v ≡ rule against first
+      → Survived wanting q places counts fails ends hops wholes (Err (fault.Found f)) ends hops wholes
+  found_survived {f} g e = fault_survived (fault.Found f) (sym (ap verdict_told g) ∙ e)
+
+  pub refused_survived : {why : Refusal} {v : Result ⊤ Fault} → v ≡ Err (fault.Refused why) → verdict_told v ≡ rule against first
+      → Survived wanting q places counts fails ends hops wholes (Err (fault.Refused why)) ends hops wholes
+  refused_survived {why} g e = fault_survived (fault.Refused why) (sym (ap verdict_told g) ∙ e)
 
   -- nothing is found
   module _ (e : ruling 0 0 0 ≡ rule against first) where

@@ -14,7 +14,8 @@ ghost use Rattle.two.specs.Says as says;
 use answers::Refusal;
 pub use parts::{named, number, split};
 pub use relays::Relay;
-use requests::{Facts, Ways};
+pub use requests::Facts;
+use requests::Ways;
 pub use two_parts::{Block, Order, Slot};
 use ways::Walked;
 

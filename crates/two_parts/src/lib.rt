@@ -9,5 +9,6 @@ mod views;
 
 pub use links::{joined, link, near};
 pub use parts::{Block, Slot, block_of, relay_of, slot_of};
+pub use requests::Facts;
 pub use sizes::{Order, blocks_in, longest_in, relays_in, slots_in};
 pub use views::seen_from;

@@ -1,4 +1,4 @@
-use Rattle.std.proofs.Common.{◌∙◌}
+use Rattle.std.proofs.Common.{sym, ◌∙◌, arith}
 use Rattle.columns.specs.Laws.{cut-here, cut-later, cut-none}
 use Rattle.columns.proofs.cut.Goals as goal
 
@@ -13,4 +13,4 @@ loop-rest-preserved c =
     cut-later rest c.args.u c.args.v c.in-len2-up.len_at_least c.pair.ensures c.if-pair.false ∙ c.loop-rest.invariant
 
 pub returns : goal.returns
-returns c = cut-none c.loop-rest.rest.now c.args.u c.args.v c.in_default.len_below ∙ c.loop-rest.invariant
+returns c = sym (cut-none c.loop-rest.rest.now c.args.u c.args.v 0 (omega (arith, c.in_default.len_below))) ∙ c.loop-rest.invariant

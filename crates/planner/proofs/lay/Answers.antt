@@ -1,6 +1,6 @@
 -- `planner::lay` meets its contract: each kind's planner is asked what it asks, and keeps the promise over every kind. Assumes nothing.
 use Rattle.std.proofs.Common.{arith}
-use Rattle.planner.specs.Laying.{lay_known, cube-few, cube_sought, cube-laid, two_left, two-few, two-asked, two-laid}
+use Rattle.planner.specs.Laying.{lay_known, cube-few, cube_sought, cube-laid, two-few, two-asked, two-laid, none_left}
 use Rattle.planner.proofs.lay.Goals as goal
 
 pub overflow_cast-mesh : goal.overflow_cast-mesh
@@ -24,19 +24,24 @@ places_in-w-requires c =
     let a = c.args in
     lay_known a.mesh.kind a.mesh.size a.source a.targets.now a.places.now a.counts.now c.requires
 
-pub overflow_cast-mesh-else-mesh-eq-CUBE : goal.overflow_cast-mesh-else-mesh-eq-CUBE
-overflow_cast-mesh-else-mesh-eq-CUBE c =
+pub overflow_cast-mesh-then-mesh-eq-TWO : goal.overflow_cast-mesh-then-mesh-eq-TWO
+overflow_cast-mesh-then-mesh-eq-TWO c =
     let a = c.args in
-    omega (arith, two-few a.mesh.kind a.mesh.size a.source a.targets.now a.places.now a.counts.now c.requires (omega arith) (two_left a.mesh.kind a.mesh.size a.source a.targets.now a.places.now a.counts.now c.requires c.if-mesh-eq-CUBE.false))
+    omega (arith, two-few a.mesh.kind a.mesh.size a.source a.targets.now a.places.now a.counts.now c.requires (omega arith) c.if-mesh-eq-TWO.true)
 
 pub lay-requires : goal.lay-requires
 lay-requires c =
     let a = c.args in
-    two-asked a.mesh.kind a.mesh.size a.source a.targets.now a.places.now a.counts.now c.requires (omega arith) (two_left a.mesh.kind a.mesh.size a.source a.targets.now a.places.now a.counts.now c.requires c.if-mesh-eq-CUBE.false)
+    two-asked a.mesh.kind a.mesh.size a.source a.targets.now a.places.now a.counts.now c.requires (omega arith) c.if-mesh-eq-TWO.true
     c.places_in-w.ensures
 
-pub returns-else-mesh-eq-CUBE : goal.returns-else-mesh-eq-CUBE
-returns-else-mesh-eq-CUBE c =
+pub returns-then-mesh-eq-TWO : goal.returns-then-mesh-eq-TWO
+returns-then-mesh-eq-TWO c =
     let a = c.args in
-    two-laid a.mesh.kind a.mesh.size a.source a.targets.now a.places.now a.counts.now c.requires (omega arith) (two_left a.mesh.kind a.mesh.size a.source a.targets.now a.places.now a.counts.now c.requires c.if-mesh-eq-CUBE.false)
+    two-laid a.mesh.kind a.mesh.size a.source a.targets.now a.places.now a.counts.now c.requires (omega arith) c.if-mesh-eq-TWO.true
     c.lay.ensures c.lay.auto.places c.lay.auto.counts
+
+pub returns-else-mesh-eq-TWO : goal.returns-else-mesh-eq-TWO
+returns-else-mesh-eq-TWO c =
+    let a = c.args in
+    none_left a.mesh.kind a.mesh.size a.source a.targets.now a.places.now a.counts.now c.requires (omega arith) c.if-mesh-eq-TWO.false
