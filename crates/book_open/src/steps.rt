@@ -39,7 +39,7 @@ pub fn piece(rest: &[u8], at: usize) -> Option<usize>
     if accepted(rest, n) { Some(n) } else { None }
 }
 
-// Puts the place of the piece that the bytes begin with into the first n places of the room, where it is live.
+// Puts the place of the piece that the bytes begin with into the first n places of the room, where it is live. A function of its own, so that the loop over removed pieces is short.
 #[inline(never)]
 pub fn enter(
     rest: &[u8],

@@ -82,7 +82,7 @@ pub fn request(relays: u64, links: u64, source: u64, targets: &[u64]) -> Result<
     targets_checked(relays, source, targets)
 }
 
-// What stands against two ends in a mesh of so many relays: 2, 5.
+// What stands against two ends in a mesh of so many relays: 2, 5. Worked out where it is called, in branches.
 #[inline(always)]
 pub fn pair(relays: u64, source: u64, target: u64) -> Result<(), Refusal>
     ensures { against result ≡ first (pair_faults relays source target) }

@@ -121,9 +121,13 @@ module _ {m s w : ℕ} {targets places counts to : List ℕ} (q : Trip m s w tar
     trip_few : (j : ℕ) → j < m → length (hops g₁ j) ≤ m + 1
     trip_few j l = (trip_fan.each j (bit-full m j l)).short
 
-    -- what searching the paths asks
-    pub trip_finds : (m ≤ 5) × ((j : ℕ) → j < m → length (hops g₁ j) < 34)
-    trip_finds = (q.high, λ j l. omega (arith, trip_few j l, q.high))
+    -- what searching the paths asks, and the grid's length
+    pub trip_finds : (m ≤ 5) × (length g₁ ≡ 560) × ((j : ℕ) → j < m → length (hops g₁ j) < 34)
+    trip_finds = (q.high, trip_long, λ j l. omega (arith, trip_few j l, q.high))
+
+    -- what it asks alone
+    pub trip_search : (m ≤ 5) × ((j : ℕ) → j < m → length (hops g₁ j) < 34)
+    trip_search = (q.high, λ j l. omega (arith, trip_few j l, q.high))
 
     pub trip_course : (row n : ℕ) → Found m g₁ (at to m) row n → Course m s0 p0 w to row n g₁
     trip_course row n f = record {

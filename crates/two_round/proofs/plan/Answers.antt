@@ -1,5 +1,5 @@
 use Rattle.std.proofs.Common.{arith}
-use Rattle.two_round.specs.Trip.{trip_asked, trip_finds}
+use Rattle.two_round.specs.Trip.{trip_asked, trip_search}
 use Rattle.two_round.specs.Going.{going_none, going_more, going_done}
 use Rattle.two_round.proofs.plan.Goals as goal
 
@@ -7,7 +7,7 @@ pub plan_rows-requires : goal.plan_rows-requires
 plan_rows-requires c = trip_asked c.requires c.slots_of-to.ensures _ _ c.block_of-s0.ensures c.slot_of-p0.ensures _ c.power-size.ensures
 
 pub find-cut-requires : goal.find-cut-requires
-find-cut-requires c = trip_finds c.requires c.slots_of-to.ensures _ _ c.block_of-s0.ensures c.slot_of-p0.ensures _ _ c.power-size.ensures c.plan_rows.ensures
+find-cut-requires c = trip_search c.requires c.slots_of-to.ensures _ _ c.block_of-s0.ensures c.slot_of-p0.ensures _ _ c.power-size.ensures c.plan_rows.ensures
 
 pub loop-j-init : goal.loop-j-init
 loop-j-init c = going_none _ c.requires c.slots_of-to.ensures c.block_of-s0.ensures c.slot_of-p0.ensures c.power-size.ensures c.plan_rows.ensures c.find-cut.ensures
