@@ -5,7 +5,7 @@ ghost use Rattle.std.specs.Prelude.{◌≡◌};
 ghost use Rattle.sheet.specs.Format.{head};
 ghost use Rattle.sheet.specs.Says as says;
 
-use answers::Reason;
+pub use answers::Reason;
 use mesh::Mesh;
 
 // Why a sheet is not written or not read.

@@ -146,6 +146,10 @@ module _ {m s0 p0 k : ℕ} {blocks slots : List ℕ} {c : Choice} {o : Option Ta
       let d = (way_of s.planned j single_on).door in
       (omega (arith, few-targets s.planned.asks s.planned.chose), way-short s.planned j single_on, omega (arith, ap length d.first))
 
+  -- the same of a whole grid, as an array has it
+  pub first_whole : length g ≡ 560 → (j < 16) × (length g ≡ 560) × (length (hops g j) < 34) × (0 < length (hops g j))
+  first_whole w = (first_ask.0, w, first_ask.1, first_ask.2)
+
   door-first : (v : ℕ) → v ≡ get_or (hops g j) 0 0 → v ≡ flip s0 (way_of s.planned j single_on).door.dim
   door-first v f = f ∙ ap (λ (l : List ℕ). get_or l 0 0) (way_of s.planned j single_on).door.first
 

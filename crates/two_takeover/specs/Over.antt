@@ -76,6 +76,10 @@ first_in g row v f x l e = f ∙ ap (λ (y : List ℕ). get_or y 0 0) e
 pub crowd_read : {reps : ℕ} {g : List ℕ} (r : ℕ) → Crowds reps g → bit r reps ≡ 1 → (8 + r < 16) × (length (hops g (8 + r)) < 34) × (0 < length (hops g (8 + r)))
 crowd_read r a o = let x = a.some r o in (omega (arith, a.few r o), a.short r o, omega (arith, ap length x.2))
 
+-- the same of a whole grid, as an array has it
+pub crowd_whole : {reps : ℕ} {g : List ℕ} (r : ℕ) → length g ≡ 560 → Crowds reps g → bit r reps ≡ 1 → (8 + r < 16) × (length g ≡ 560) × (length (hops g (8 + r)) < 34) × (0 < length (hops g (8 + r)))
+crowd_whole r w a o = let x = crowd_read r a o in (x.0, w, x.1, x.2)
+
 pub crowding_more : {reps front : ℕ} {g : List ℕ} {todo : ℕ} (r v next : ℕ) → Crowding reps front g todo → bit r todo ≡ 1 → FirstIs g (8 + r) v → v ≢ front → next ≡ flip todo r
     → Crowding reps front g next
 crowding_more {reps} {front} {g} {todo} r v next k o f ne e =
